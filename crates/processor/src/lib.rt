@@ -1,0 +1,5 @@
+pub mod cost;
+pub mod drive;
+pub mod mode;
+pub mod refusal;
+pub mod table;
