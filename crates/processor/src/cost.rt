@@ -1,4 +1,7 @@
 ghost use Prim.Native.Nat.{_*_, _<_, _≤_};
+ghost use mathlib.Core.Path.{_≡_};
+ghost use Rattle.processor.specs.Drives.{peak, energy-of, span-of};
+ghost use Rattle.processor.specs.declared.drive.Drive.the-variants.{Pair as Turns};
 ghost use Rattle.processor.specs.Limits.{longest-frame, top-power};
 use crate::drive::Drive;
 use crate::drive::Pair;
@@ -26,6 +29,7 @@ impl Cost {
 impl Pair {
     // The energy of a frame, in nJ. A switch draws the power of the mode that it leads to.
     fn energy(&self) -> u64
+        ensures value { λ r. ⌜ r ≡ energy-of (Turns (now (self .entry))) ⌝ }
         ensures weak { λ r. ⌜ r ≤ top-power * now (self .entry) .frame ⌝ }
     {
         let low = u64::from(self.low.power) * u64::from(self.low_time);
@@ -36,7 +40,9 @@ impl Pair {
 
 impl Drive {
     // The highest speed of the drive.
-    pub fn peak(&self) -> u32 {
+    pub fn peak(&self) -> u32
+        ensures { λ r. ⌜ r ≡ peak (now (self .entry)) ⌝ }
+    {
         match self {
             Drive::Fixed(mode) => mode.speed,
             Drive::Pair(pair) => pair.high.speed,
@@ -44,7 +50,10 @@ impl Drive {
     }
 
     // The mean power of the drive.
-    pub fn cost(&self) -> Cost {
+    pub fn cost(&self) -> Cost
+        ensures energy { λ r. ⌜ r .energy ≡ energy-of (now (self .entry)) ⌝ }
+        ensures frame { λ r. ⌜ r .frame ≡ span-of (now (self .entry)) ⌝ }
+    {
         match self {
             Drive::Fixed(mode) => Cost {
                 energy: u64::from(mode.power),

@@ -1,4 +1,5 @@
 use Prim.Native.Nat.{_+_, _*_, _≤_}
+use borrow.Author.Needs.{needs}
 use native.Mathlib.Omega.{arith}
 use Rattle.processor.specs.Limits.{top-power}
 use Rattle.processor.proofs.Costs.{below-limit}
@@ -11,4 +12,4 @@ pub add-result : need.add-result
 add-result c = let h = weak c in omega (arith, c .args .self .now .whole, c .args .self .now .«short_frame»)
 
 pub returns : need.returns
-returns c = let h = weak c in record { weak = omega (arith, c .args .self .now .whole) }
+returns c = let h = weak c in record { value = search needs; weak = omega (arith, c .args .self .now .whole) }

@@ -1,0 +1,4 @@
+pub mod Windows
+pub mod Laws
+pub mod Patterns
+pub mod Formulas
