@@ -1,1 +1,6 @@
+pub mod edf;
+pub mod fp;
+pub mod job;
+pub mod policy;
+pub mod set;
 pub mod task;
