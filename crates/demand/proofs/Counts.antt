@@ -3,7 +3,7 @@ use Prim.Native.Nat.{ℕ, zero, suc, _+_, _*_, _-_, _/_, _<_, _≤_}
 use mathlib.Core.Path.{_≡_, sym, ap, _∙_}
 use mathlib.Core.List.{List, [], _∷_}
 use native.Mathlib.Omega.{arith}
-use native.Mathlib.Nat.{add-mul, mul-le-mul, mul-le-mul-left, mul-le-mul-right, div-mul-le-self, div-le-self}
+use native.Mathlib.Nat.{add-mul, mul-le-mul-left, mul-le-mul-right, div-mul-le-self, div-le-self}
 use Rattle.std.proofs.shelf.Bits.{div-below}
 use Rattle.std.proofs.shelf.Ways.{tells}
 use Rattle.processor.specs.Limits.{top-speed}
@@ -62,6 +62,3 @@ total-all f peak ts i h = ap (λ v. total f (charges peak v)) (take-all i ts h)
 pub peak-limit : (d : Drive) → peak d ≤ top-speed
 peak-limit (Fixed m) = m .slow
 peak-limit (Turns p) = p .high .slow
-
-pub product-le : (a b m n : ℕ) → a ≤ m → b ≤ n → a * b ≤ m * n
-product-le a b m n h k = mul-le-mul h k

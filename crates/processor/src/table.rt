@@ -1,6 +1,4 @@
 ghost use Prim.Native.Nat.{_≤_};
-use crate::drive::Drive;
-use crate::drive::Pair;
 use crate::mode::LAST_MODE;
 use crate::mode::LONGEST_FRAME;
 use crate::mode::LONGEST_SWITCH;
@@ -11,6 +9,7 @@ use crate::mode::TOP_POWER;
 use crate::mode::TOP_SPEED;
 use crate::refusal::Refusal;
 use crate::refusal::RefusalFromRefused;
+use crate::splits::Splits;
 use std::alloc::AllocError;
 use std::alloc::Global;
 
@@ -127,5 +126,17 @@ impl Processor {
             }
         }
         longest
+    }
+
+    // The splits of a listed frame between two listed modes with both switches listed, where there is one.
+    pub fn splits(&self, frame: u32, low: u32, high: u32) -> Option<Splits> {
+        if !self.frames.contains(&frame) {
+            return None;
+        }
+        let low_mode = self.mode(low)?;
+        let high_mode = self.mode(high)?;
+        let up = self.switch_time(low, high)?;
+        let down = self.switch_time(high, low)?;
+        Splits::new(low_mode, high_mode, up, down, frame)
     }
 }

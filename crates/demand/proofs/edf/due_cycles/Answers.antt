@@ -6,7 +6,8 @@ use Rattle.processor.specs.Drives.{peak}
 use Rattle.demand.specs.Limits.{longest-span, most-charge}
 use Rattle.demand.specs.Charges.{charge}
 use Rattle.demand.specs.Demand.{demand, total, due-cycles}
-use Rattle.demand.proofs.Counts.{total-next, total-all, product-le}
+use Rattle.demand.proofs.Counts.{total-next, total-all}
+use Rattle.processor.proofs.Products.{product-le}
 use Rattle.demand.proofs.edf.due_cycles.Needs as need
 
 more : (c : need.After-charge) → c .from .result * c .charge .result ≤ longest-span * most-charge

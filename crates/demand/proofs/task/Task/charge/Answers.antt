@@ -5,7 +5,8 @@ use native.Mathlib.Omega.{arith}
 use Rattle.processor.specs.Limits.{top-speed}
 use Rattle.processor.specs.Drives.{peak}
 use Rattle.demand.specs.Limits.{longest-fixed}
-use Rattle.demand.proofs.Counts.{peak-limit, product-le}
+use Rattle.demand.proofs.Counts.{peak-limit}
+use Rattle.processor.proofs.Products.{product-le}
 use Rattle.demand.proofs.task.Task.charge.Needs as need
 
 pub returns : need.returns

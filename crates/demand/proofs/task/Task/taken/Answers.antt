@@ -7,7 +7,7 @@ use Rattle.demand.specs.Limits.{longest-period, most-charge}
 use Rattle.processor.specs.Drives.{peak}
 use Rattle.demand.specs.Charges.{charge}
 use Rattle.demand.specs.Demand.{releases}
-use Rattle.demand.proofs.Counts.{product-le}
+use Rattle.processor.proofs.Products.{product-le}
 use Rattle.demand.proofs.task.Task.taken.Needs as need
 
 most : (c : need.After-charge) → c .from .result * c .charge .result ≤ longest-period * most-charge

@@ -2,7 +2,7 @@ use Prim.Native.Nat.{_+_, _*_, _≤_}
 use borrow.Author.Needs.{needs}
 use native.Mathlib.Omega.{arith}
 use Rattle.processor.specs.Limits.{top-power}
-use Rattle.processor.proofs.Costs.{below-limit}
+use Rattle.processor.proofs.Products.{below-limit}
 use Rattle.processor.proofs.drive.Pair.energy.Needs as need
 
 weak : (c : need.After-from-4) → c .from .result * c .from-2 .result + c .from-3 .result * c .from-4 .result ≤ top-power * (c .from-2 .result + c .from-4 .result)
