@@ -1,4 +1,7 @@
-ghost use Prim.Native.Nat.{_≤_};
+ghost use Prim.Native.Nat.{_+_, _-_, _≤_};
+ghost use mathlib.Core.Bool.{cond};
+ghost use Rattle.std.specs.Results.{isOk};
+ghost use Rattle.std.specs.Vec.{made};
 ghost use mathlib.Core.Path.{_≡_};
 ghost use lib.ListN.{length};
 ghost use Rattle.std.specs.Of.Vec.{vec-len, vec-items, vec-cap};
@@ -20,7 +23,9 @@ pub struct TaskSet {
 }
 
 impl TaskSet {
-    pub fn new(heap: Global) -> Result<TaskSet, AllocError> {
+    pub fn new(heap: Global) -> Result<TaskSet, AllocError>
+        ensures empty { λ r. ⌜ made r (λ s. vec-len (s .tasks) ≡ 0) ⌝ }
+    {
         let tasks = Vec::with_capacity(heap, MOST_TASKS)?;
         Ok(TaskSet { tasks })
     }
@@ -42,7 +47,9 @@ impl TaskSet {
     }
 
     // Takes one task more.
-    pub fn add(&mut self, task: Task) -> Result<(), Refusal> {
+    pub fn add(&mut self, task: Task) -> Result<(), Refusal>
+        ensures len { λ r. ⌜ vec-len (now (self .exit) .tasks) ≡ cond (isOk r) (vec-len (now (self .entry) .tasks) + 1) (vec-len (now (self .entry) .tasks)) ⌝ }
+    {
         if self.has_rank(task.rank) {
             return Err(Refusal::RankTaken);
         }
@@ -54,7 +61,9 @@ impl TaskSet {
     }
 
     // Takes the newest task out again.
-    pub fn drop_newest(&mut self) {
+    pub fn drop_newest(&mut self)
+        ensures len { λ _. ⌜ vec-len (now (self .exit) .tasks) ≡ vec-len (now (self .entry) .tasks) - 1 ⌝ }
+    {
         let _ = self.tasks.pop();
     }
 }

@@ -1,4 +1,5 @@
-ghost use Prim.Native.Nat.{_≤_};
+ghost use Prim.Native.Nat.{_<_};
+ghost use Rattle.std.specs.Options.{Cases as BySome};
 use crate::mode::LAST_MODE;
 use crate::mode::LONGEST_FRAME;
 use crate::mode::LONGEST_SWITCH;
@@ -97,6 +98,11 @@ impl Processor {
         !self.modes.is_empty()
     }
 
+    // The mode that was listed first.
+    pub fn first_mode(&self) -> Option<Mode> {
+        self.modes.first().copied()
+    }
+
     // The mode of a number.
     pub fn mode(&self, number: u32) -> Option<Mode> {
         for mode in self.modes.iter() {
@@ -118,10 +124,12 @@ impl Processor {
     }
 
     // The longest listed frame that is shorter than the bound.
-    pub fn longest_frame_below(&self, bound: u32) -> Option<u32> {
-        let mut longest: Option<u32> = None;
-        for frame in self.frames.iter() {
-            if *frame < bound && longest < Some(*frame) {
+    pub fn longest_frame_below(&self, bound: u32) -> Option<u32>
+        ensures { λ r. ⌜ BySome r (Unit {0}) (λ f. f < bound) ⌝ }
+    {
+        let mut longest = None;
+        'frames: for frame in self.frames.iter() {
+            if *frame < bound && longest.unwrap_or(0) < *frame {
                 longest = Some(*frame);
             }
         }

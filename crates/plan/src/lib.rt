@@ -1,0 +1,5 @@
+pub mod feasible;
+pub mod opening;
+pub mod plan;
+pub mod search;
+pub mod table;
