@@ -1,0 +1,5 @@
+pub mod part;
+pub mod records;
+pub mod scan;
+#[cfg(test)]
+mod tests;

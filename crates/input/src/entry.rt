@@ -1,0 +1,78 @@
+use crate::fault::Fault;
+use crate::fault::Layer;
+use crate::line::Line;
+use processor::refusal::Refusal;
+
+// What a record of the processor's file lists.
+#[derive(Clone, Copy)]
+pub enum Entry {
+    Mode { number: u32, speed: u32, power: u32 },
+    Switch { from: u32, to: u32, time: u32 },
+    Frame { length: u32 },
+}
+
+// The first field of such a record.
+#[derive(Clone, Copy)]
+enum Kind {
+    Mode,
+    Switch,
+    Frame,
+}
+
+// The kind that a text names.
+fn kind_of(text: &[u8]) -> Option<Kind> {
+    match text {
+        b"mode" => Some(Kind::Mode),
+        b"switch" => Some(Kind::Switch),
+        b"frame" => Some(Kind::Frame),
+        _ => None,
+    }
+}
+
+// The kind of a record.
+fn kind_in(file: &[u8], line: &Line) -> Result<Kind, Fault> {
+    let named = match line.text(file, 1) {
+        Some(text) => kind_of(text),
+        None => None,
+    };
+    match named {
+        Some(kind) => Ok(kind),
+        None => Err(line.fault(Layer::Numbers, Refusal::UnknownKind, 1)),
+    }
+}
+
+// A frame has nothing in its last two fields.
+fn leave_empty(file: &[u8], line: &Line, number: u32) -> Result<(), Fault> {
+    match line.text(file, number) {
+        Some([]) => Ok(()),
+        _ => Err(line.fault(Layer::Numbers, Refusal::FrameFieldFilled, number)),
+    }
+}
+
+// The entry of a record.
+pub fn entry_of(file: &[u8], line: &Line) -> Result<Entry, Fault> {
+    match kind_in(file, line)? {
+        Kind::Mode => {
+            let number = line.number_in(file, 2)?;
+            let speed = line.number_in(file, 3)?;
+            let power = line.number_in(file, 4)?;
+            Ok(Entry::Mode {
+                number,
+                speed,
+                power,
+            })
+        }
+        Kind::Switch => {
+            let from = line.number_in(file, 2)?;
+            let to = line.number_in(file, 3)?;
+            let time = line.number_in(file, 4)?;
+            Ok(Entry::Switch { from, to, time })
+        }
+        Kind::Frame => {
+            leave_empty(file, line, 3)?;
+            leave_empty(file, line, 4)?;
+            let length = line.number_in(file, 2)?;
+            Ok(Entry::Frame { length })
+        }
+    }
+}
