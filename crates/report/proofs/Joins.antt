@@ -1,14 +1,17 @@
 -- One text after another in a buffer.
-use Prim.Native.Nat.{ℕ, _+_, _-_, _<_, _≤_}
-use mathlib.Core.Path.{_≡_, refl, sym, ap, _∙_}
+use Prim.Native.Nat.{ℕ, _+_, _-_, _*_, _^_, _<_, _≤_}
+use mathlib.Core.Path.{_≡_, refl, sym, ap, subst, _∙_}
 use mathlib.Core.List.{List, [], _∷_, _++_, append-assoc, append-nil}
 use native.Mathlib.Omega.{arith}
 use borrow.Rule.Slice.PartMut.{putMid, postOf, post-is}
 use lib.Chars.{codes}
 use lib.ListN.{length, take, drop, getD, length-append}
-use Rattle.report.specs.Placing.{placed, Put}
-use Rattle.report.specs.Texts.{line-end, after-commas, row-text}
+use Rattle.report.specs.Placing.{placed, Put, Puts}
+use Rattle.report.specs.Texts.{line-end, after-commas, row-text, Small}
+use Rattle.processor.specs.declared.refusal.Refusal.{Refusal}
 use Rattle.std.specs.Written.{decimal}
+use Rattle.std.specs.declared.result.Result.{Result}
+use Rattle.std.proofs.shelf.Decimals.{length-decimal-le}
 use Rattle.std.proofs.shelf.Lists.{drop-drop, drop-all, take-at, drop-at, take-more, take-append-drop, length-take-le}
 
 -- what a copy into a part of the buffer leaves
@@ -93,3 +96,27 @@ row-length head first more =
     let b = length-append (head ++ decimal first) (after-commas more) in
     let d = length-append ((head ++ decimal first) ++ after-commas more) line-end in
     omega arith
+
+-- small numbers have at most ten digits each
+small-length : (ns : List ℕ) → Small ns → length (after-commas ns) ≤ 11 * length ns
+small-length [] h = omega arith
+small-length (n ∷ ns) (h, hs) =
+    let a = length-append (codes "," ++ decimal n) (after-commas ns) in
+    let b : length (decimal n) ≤ 10 = length-decimal-le 10 n (omega arith) (omega arith) (omega arith) in
+    let rest = small-length ns hs in
+    omega arith
+
+pub row-short : (head : List ℕ) (first : ℕ) (more : List ℕ) → first < 2 ^ 32 → Small more
+    → length (row-text head first more) ≤ length head + 12 + 11 * length more
+row-short head first more h hs =
+    let a = row-length head first more in
+    let b : length (decimal first) ≤ 10 = length-decimal-le 10 first (omega arith) (omega arith) (omega arith) in
+    let rest = small-length more hs in
+    omega arith
+
+-- the same row, of equal numbers
+pub same-row : (old new : List ℕ) (at : ℕ) (head : List ℕ) (m n : ℕ) (ms ns : List ℕ) (r : Result ℕ Refusal) → m ≡ n → ms ≡ ns
+    → Puts old new at (row-text head m ms) r → Puts old new at (row-text head n ns) r
+same-row old new at head m n ms ns r e es h =
+    let P : List ℕ → Type 0 = λ t. Puts old new at t r in
+    subst P (ap (λ i. row-text head i ms) e ∙ ap (row-text head n) es) h

@@ -7,3 +7,6 @@ pub use line::Line;
 pub use line::write_fault;
 pub use line::write_header;
 pub use line::write_line;
+
+#[cfg(test)]
+mod tests;

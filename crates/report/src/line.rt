@@ -1,8 +1,8 @@
-ghost use Prim.Native.Nat.{_+_, _≤_};
+ghost use Prim.Native.Nat.{_^_, _<_, _≤_};
 ghost use mathlib.Core.Path.{_≡_};
 ghost use lib.ListN.{length};
 ghost use Rattle.report.specs.Placing.{Puts};
-ghost use Rattle.report.specs.Texts.{row-text};
+ghost use Rattle.report.specs.Texts.{row-text, Small};
 ghost use Rattle.report.specs.Lines.{longest-line, header-text, drive-fields, line-fields, line-text, fault-text};
 use crate::place::put_after_commas;
 use crate::place::put_number;
@@ -13,7 +13,7 @@ use processor::drive::Drive;
 use processor::refusal::Refusal;
 
 // No line of a report is longer, with its line end.
-pub const LONGEST_LINE: usize = 64;
+pub const LONGEST_LINE: usize = 100;
 
 // A line of a report: the number of the record, from 1, what its call answered, the ticket or why there is none, and
 // the drive after the call.
@@ -81,9 +81,18 @@ fn drive_fields(drive: &Drive) -> [u64; 6]
     }
 }
 
+// A number of 32 bits, of which a proof then knows that it is small.
+fn wide(n: u32) -> u64
+    ensures same { λ r. ⌜ r ≡ n ⌝ }
+    ensures small { λ r. ⌜ r < 2 ^ 32 ⌝ }
+{
+    u64::from(n)
+}
+
 // The number of the answer, 0 for a ticket; the ticket, or 0; and the figures of the drive.
 fn line_fields(line: &Line) -> [u64; 8]
-    ensures { λ r. ⌜ r ≡ line-fields (now (line .entry)) ⌝ }
+    ensures fields { λ r. ⌜ r ≡ line-fields (now (line .entry)) ⌝ }
+    ensures small { λ r. ⌜ Small r ⌝ }
 {
     let (answer, ticket) = match line.answer {
         Ok(ticket) => (0, ticket),
@@ -91,8 +100,8 @@ fn line_fields(line: &Line) -> [u64; 8]
     };
     let [low, high, low_time, high_time, energy, frame] = drive_fields(&line.drive);
     [
-        u64::from(answer),
-        u64::from(ticket),
+        wide(answer),
+        wide(ticket),
         low,
         high,
         low_time,
@@ -119,7 +128,7 @@ pub fn write_line(buffer: &mut [u8], at: usize, line: &Line) -> Result<usize, Re
     ensures puts { λ r. ⌜ Puts (now (buffer .entry)) (now (buffer .exit)) at (line-text (now (line .entry))) r ⌝ }
     ensures short { λ _. ⌜ length (line-text (now (line .entry))) ≤ longest-line ⌝ }
 {
-    write_row(buffer, at, b"", u64::from(line.record), &line_fields(line))
+    write_row(buffer, at, b"", wide(line.record), &line_fields(line))
 }
 
 // The same of the line of a fault.
@@ -131,11 +140,11 @@ pub fn write_fault(
     ensures puts { λ r. ⌜ Puts (now (buffer .entry)) (now (buffer .exit)) at (fault-text (now (fault .entry))) r ⌝ }
     ensures short { λ _. ⌜ length (fault-text (now (fault .entry))) ≤ longest-line ⌝ }
 {
-    let number = u64::from(fault.refusal.number());
+    let number = wide(fault.refusal.number());
     let place = [
-        u64::from(fault.file),
-        u64::from(fault.record),
-        u64::from(fault.field),
+        wide(fault.file),
+        wide(fault.record),
+        wide(fault.field),
     ];
     write_row(buffer, at, b"fault,", number, &place)
 }
