@@ -12,10 +12,6 @@ use Rattle.report.specs.declared.line.Line.{Line}
 use Rattle.std.specs.declared.result.Result.{Result}
 use Rattle.std.specs.declared.result.Result.the-variants.{Ok, Err}
 
--- how long a line is at most: nine numbers of ten digits, with a comma or the line end after each
-abbrev pub longest-line : ℕ
-longest-line = 100
-
 abbrev pub header-text : List ℕ
 header-text = codes "record,answer,ticket,low,high,qlow,qhigh,nanojoule,frame" ++ line-end
 

@@ -3,7 +3,7 @@ ghost use mathlib.Core.Path.{_≡_};
 ghost use lib.ListN.{length};
 ghost use Rattle.report.specs.Placing.{Puts};
 ghost use Rattle.report.specs.Texts.{row-text, Small};
-ghost use Rattle.report.specs.Lines.{longest-line, header-text, drive-fields, line-fields, line-text, fault-text};
+ghost use Rattle.report.specs.Lines.{header-text, drive-fields, line-fields, line-text, fault-text};
 use crate::place::put_after_commas;
 use crate::place::put_number;
 use crate::place::put_text;
@@ -114,7 +114,7 @@ fn line_fields(line: &Line) -> [u64; 8]
 // Writes the line that names the columns, from a place of the buffer on, and answers where it ends.
 pub fn write_header(buffer: &mut [u8], at: usize) -> Result<usize, Refusal>
     ensures puts { λ r. ⌜ Puts (now (buffer .entry)) (now (buffer .exit)) at header-text r ⌝ }
-    ensures short { λ _. ⌜ length header-text ≤ longest-line ⌝ }
+    ensures short { λ _. do ⌜ length header-text ≤ (← ⟦LONGEST_LINE⟧ .entry) ⌝ }
 {
     let header = b"record,answer,ticket,low,high,qlow,qhigh,nanojoule,frame\r\n";
     if at > buffer.len() || header.len() > buffer.len() - at {
@@ -126,7 +126,7 @@ pub fn write_header(buffer: &mut [u8], at: usize) -> Result<usize, Refusal>
 // The same of the line of a record.
 pub fn write_line(buffer: &mut [u8], at: usize, line: &Line) -> Result<usize, Refusal>
     ensures puts { λ r. ⌜ Puts (now (buffer .entry)) (now (buffer .exit)) at (line-text (now (line .entry))) r ⌝ }
-    ensures short { λ _. ⌜ length (line-text (now (line .entry))) ≤ longest-line ⌝ }
+    ensures short { λ _. do ⌜ length (line-text (now (line .entry))) ≤ (← ⟦LONGEST_LINE⟧ .entry) ⌝ }
 {
     write_row(buffer, at, b"", wide(line.record), &line_fields(line))
 }
@@ -138,7 +138,7 @@ pub fn write_fault(
     fault: &FaultLine,
 ) -> Result<usize, Refusal>
     ensures puts { λ r. ⌜ Puts (now (buffer .entry)) (now (buffer .exit)) at (fault-text (now (fault .entry))) r ⌝ }
-    ensures short { λ _. ⌜ length (fault-text (now (fault .entry))) ≤ longest-line ⌝ }
+    ensures short { λ _. do ⌜ length (fault-text (now (fault .entry))) ≤ (← ⟦LONGEST_LINE⟧ .entry) ⌝ }
 {
     let number = wide(fault.refusal.number());
     let place = [
