@@ -8,7 +8,7 @@ use Rattle.processor.specs.Limits.{top-power}
 use Rattle.processor.specs.declared.drive.Drive.{Drive}
 use Rattle.processor.specs.declared.drive.Drive.the-variants.{Fixed, Pair}
 use Rattle.processor.specs.declared.refusal.Refusal.{Refusal}
-use Rattle.processor.proofs.Costs.{below-limit}
+use Rattle.processor.proofs.Products.{below-limit}
 use Rattle.report.specs.Lines.{answer-fields, drive-fields}
 use Rattle.report.specs.Texts.{Small}
 use Rattle.std.specs.declared.result.Result.{Result}

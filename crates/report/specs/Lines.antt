@@ -1,7 +1,8 @@
 -- The lines of a report.
-use Prim.Native.Nat.{ℕ, _+_, _*_}
+use Prim.Native.Nat.{ℕ}
 use mathlib.Core.List.{List, [], _∷_, _++_}
 use lib.Chars.{codes}
+use Rattle.processor.specs.Drives.{energy-of, span-of}
 use Rattle.processor.specs.Refusals.{refusal-number}
 use Rattle.processor.specs.declared.drive.Drive.{Drive}
 use Rattle.processor.specs.declared.drive.Drive.the-variants.{Fixed, Pair}
@@ -15,15 +16,10 @@ use Rattle.std.specs.declared.result.Result.the-variants.{Ok, Err}
 abbrev pub header-text : List ℕ
 header-text = codes "record,answer,ticket,low,high,qlow,qhigh,nanojoule,frame" ++ line-end
 
--- the energy of a frame, in nJ: of a fixed drive its power, for a microsecond
-abbrev pub shown-energy : Drive → ℕ
-shown-energy (Fixed m) = m .power
-shown-energy (Pair p) = p .low .power * p .«low_time» + p .high .power * p .«high_time»
-
 -- the modes, their times, the energy of a frame and the frame; of a fixed drive the mode twice and no times
 abbrev pub drive-fields : Drive → List ℕ
-drive-fields (Fixed m) = m .number ∷ m .number ∷ 0 ∷ 0 ∷ shown-energy (Fixed m) ∷ 1 ∷ []
-drive-fields (Pair p) = p .low .number ∷ p .high .number ∷ p .«low_time» ∷ p .«high_time» ∷ shown-energy (Pair p) ∷ p .frame ∷ []
+drive-fields (Fixed m) = m .number ∷ m .number ∷ 0 ∷ 0 ∷ energy-of (Fixed m) ∷ span-of (Fixed m) ∷ []
+drive-fields (Pair p) = p .low .number ∷ p .high .number ∷ p .«low_time» ∷ p .«high_time» ∷ energy-of (Pair p) ∷ span-of (Pair p) ∷ []
 
 -- 0 and the ticket, or the refusal's number and 0
 abbrev pub answer-fields : Result ℕ Refusal → List ℕ

@@ -59,25 +59,21 @@ fn write_row(
 fn drive_fields(drive: &Drive) -> [u64; 6]
     ensures { λ r. ⌜ r ≡ drive-fields (now (drive .entry)) ⌝ }
 {
+    let cost = drive.cost();
+    let frame = u64::from(cost.frame);
     match drive {
         Drive::Fixed(mode) => {
             let number = u64::from(mode.number);
-            [number, number, 0, 0, u64::from(mode.power), 1]
+            [number, number, 0, 0, cost.energy, frame]
         }
-        Drive::Pair(pair) => {
-            let low_time = u64::from(pair.low_time);
-            let high_time = u64::from(pair.high_time);
-            let energy =
-                u64::from(pair.low.power) * low_time + u64::from(pair.high.power) * high_time;
-            [
-                u64::from(pair.low.number),
-                u64::from(pair.high.number),
-                low_time,
-                high_time,
-                energy,
-                u64::from(pair.frame),
-            ]
-        }
+        Drive::Pair(pair) => [
+            u64::from(pair.low.number),
+            u64::from(pair.high.number),
+            u64::from(pair.low_time),
+            u64::from(pair.high_time),
+            cost.energy,
+            frame,
+        ],
     }
 }
 
