@@ -1,18 +1,14 @@
--- The figures of a line: how many they are, and that those of a drive are small.
+-- The figures of a drive are small.
 use Prim.Native.Nat.{ℕ}
-use mathlib.Core.List.{List, [], _∷_, _++_}
-use mathlib.Core.Path.{_≡_, refl}
+use mathlib.Core.List.{List, [], _∷_}
 use native.Mathlib.Omega.{arith}
-use lib.ListN.{length, getD}
+use lib.ListN.{getD}
 use Rattle.processor.specs.Limits.{top-power}
 use Rattle.processor.specs.declared.drive.Drive.{Drive}
 use Rattle.processor.specs.declared.drive.Drive.the-variants.{Fixed, Pair}
-use Rattle.processor.specs.declared.refusal.Refusal.{Refusal}
 use Rattle.processor.proofs.Products.{below-limit}
-use Rattle.report.specs.Lines.{answer-fields, drive-fields}
+use Rattle.report.specs.Lines.{drive-fields}
 use Rattle.report.specs.Texts.{Small}
-use Rattle.std.specs.declared.result.Result.{Result}
-use Rattle.std.specs.declared.result.Result.the-variants.{Ok, Err}
 
 -- six numbers of a list
 abbrev pub first-six : List ℕ → List ℕ
@@ -23,9 +19,3 @@ drive-small (Fixed m) = (omega arith, (omega arith, (omega arith, (omega arith, 
 drive-small (Pair p) =
     let h = below-limit top-power (p .low .power) (p .high .power) (p .«low_time») (p .«high_time») (p .low .weak) (p .high .weak) in
     (omega arith, (omega arith, (omega arith, (omega arith, (omega arith, (omega arith, tt))))))
-
-pub eight : (r : Result ℕ Refusal) (d : Drive) → length (answer-fields r ++ drive-fields d) ≡ 8
-eight (Ok t) (Fixed m) = refl
-eight (Ok t) (Pair p) = refl
-eight (Err e) (Fixed m) = refl
-eight (Err e) (Pair p) = refl

@@ -1,16 +1,14 @@
 -- One text after another in a buffer.
 use Prim.Native.Nat.{ℕ, _+_, _-_, _*_, _^_, _<_, _≤_}
-use mathlib.Core.Path.{_≡_, refl, sym, ap, subst, _∙_}
+use mathlib.Core.Path.{_≡_, refl, sym, ap, _∙_}
 use mathlib.Core.List.{List, [], _∷_, _++_, append-assoc, append-nil}
 use native.Mathlib.Omega.{arith}
 use borrow.Rule.Slice.PartMut.{putMid, postOf, post-is}
 use lib.Chars.{codes}
 use lib.ListN.{length, take, drop, getD, length-append}
-use Rattle.report.specs.Placing.{placed, Put, Puts}
+use Rattle.report.specs.Placing.{placed, Put}
 use Rattle.report.specs.Texts.{line-end, after-commas, row-text, Small}
-use Rattle.processor.specs.declared.refusal.Refusal.{Refusal}
 use Rattle.std.specs.Written.{decimal}
-use Rattle.std.specs.declared.result.Result.{Result}
 use Rattle.std.proofs.shelf.Decimals.{length-decimal-le}
 use Rattle.std.proofs.shelf.Lists.{drop-drop, drop-all, take-at, drop-at, take-more, take-append-drop, length-take-le}
 
@@ -47,7 +45,7 @@ placed-more x y at p s t e h f =
     let m : length (s ++ t) ≡ length s + length t = length-append s t in
     let n : at + length s + length t ≡ at + length (s ++ t) = omega arith in
     let dd : drop (p + length t) y ≡ drop (at + length (s ++ t)) x =
-        sym (drop-drop (length t) p y) ∙ ap (drop (length t)) d ∙ drop-drop (length t) (at + length s) x ∙ ap (λ i. drop i x) n in
+    sym (drop-drop (length t) p y) ∙ ap (drop (length t)) d ∙ drop-drop (length t) (at + length s) x ∙ ap (λ i. drop i x) n in
     ap (λ z. (z ++ t) ++ drop (p + length t) y) tk
     ∙ ap (λ z. ((take at x ++ s) ++ t) ++ z) dd
     ∙ ap (λ z. z ++ drop (at + length (s ++ t)) x) (append-assoc (take at x) s t)
@@ -113,10 +111,3 @@ row-short head first more h hs =
     let b : length (decimal first) ≤ 10 = length-decimal-le 10 first (omega arith) (omega arith) (omega arith) in
     let rest = small-length more hs in
     omega arith
-
--- the same row, of equal numbers
-pub same-row : (old new : List ℕ) (at : ℕ) (head : List ℕ) (m n : ℕ) (ms ns : List ℕ) (r : Result ℕ Refusal) → m ≡ n → ms ≡ ns
-    → Puts old new at (row-text head m ms) r → Puts old new at (row-text head n ns) r
-same-row old new at head m n ms ns r e es h =
-    let P : List ℕ → Type 0 = λ t. Puts old new at t r in
-    subst P (ap (λ i. row-text head i ms) e ∙ ap (row-text head n) es) h

@@ -1,4 +1,4 @@
-ghost use Prim.Native.Nat.{_^_, _<_, _≤_};
+ghost use Prim.Native.Nat.{_+_, _*_, _^_, _<_, _≤_};
 ghost use mathlib.Core.Path.{_≡_};
 ghost use lib.ListN.{length};
 ghost use Rattle.report.specs.Placing.{Puts};
@@ -41,8 +41,11 @@ fn write_row(
     first: u64,
     more: &[u64],
 ) -> Result<usize, Refusal>
-    requires { ⌜ length (now head) ≤ 8 ⌝ ∗ ⌜ length (now more) ≤ 8 ⌝ }
-    ensures { λ r. ⌜ Puts (now (buffer .entry)) (now (buffer .exit)) at (row-text (now (head .entry)) first (now (more .entry))) r ⌝ }
+    requires few { ⌜ length (now head) + 11 * length (now more) ≤ 88 ⌝ }
+    requires first_small { ⌜ first < 2 ^ 32 ⌝ }
+    requires more_small { ⌜ Small (now more) ⌝ }
+    ensures puts { λ r. ⌜ Puts (now (buffer .entry)) (now (buffer .exit)) at (row-text (now (head .entry)) first (now (more .entry))) r ⌝ }
+    ensures short { λ _. do ⌜ length (row-text (now (head .entry)) first (now (more .entry))) ≤ (← ⟦LONGEST_LINE⟧ .entry) ⌝ }
 {
     let bytes = head.len() + width(first) + width_after_commas(more) + 2;
     if at > buffer.len() || bytes > buffer.len() - at {
@@ -128,19 +131,11 @@ pub fn write_line(buffer: &mut [u8], at: usize, line: &Line) -> Result<usize, Re
 }
 
 // The same of the line of a fault.
-pub fn write_fault(
-    buffer: &mut [u8],
-    at: usize,
-    fault: &FaultLine,
-) -> Result<usize, Refusal>
+pub fn write_fault(buffer: &mut [u8], at: usize, fault: &FaultLine) -> Result<usize, Refusal>
     ensures puts { λ r. ⌜ Puts (now (buffer .entry)) (now (buffer .exit)) at (fault-text (now (fault .entry))) r ⌝ }
     ensures short { λ _. do ⌜ length (fault-text (now (fault .entry))) ≤ (← ⟦LONGEST_LINE⟧ .entry) ⌝ }
 {
     let number = wide(fault.refusal.number());
-    let place = [
-        wide(fault.file),
-        wide(fault.record),
-        wide(fault.field),
-    ];
+    let place = [wide(fault.file), wide(fault.record), wide(fault.field)];
     write_row(buffer, at, b"fault,", number, &place)
 }

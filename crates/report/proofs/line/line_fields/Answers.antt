@@ -12,5 +12,5 @@ returns c =
     let P : List ℕ → Type 0 = λ ns. Small (first-six ns) in
     record {
       fields = search needs;
-      small = (omega arith, (omega arith, subst P (sym (c .drive-fields .ensures)) (drive-small (c .args .line .now .drive))))
+      small = (omega arith, (omega arith, subst P (sym (c .drive-fields .ensures)) (drive-small (c .args .line .now .drive))));
     }

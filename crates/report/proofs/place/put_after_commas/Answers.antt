@@ -31,9 +31,9 @@ numbers-again c =
     let ns : List ℕ = c .args .numbers .now in
     let done : List ℕ = after-commas (take (c .numbers .n-index) ns) in
     let comma = put-more (c .args .buffer .now) (c .numbers .buffer) (c .put-text-comma .last .buffer) (c .args .at) (c .numbers .end) (c .put-text-comma .result) done (codes ",")
-        (omega arith) (c .numbers .inv) (c .put-text-comma .ensures) in
+    (omega arith) (c .numbers .inv) (c .put-text-comma .ensures) in
     let number = put-more (c .args .buffer .now) (c .put-text-comma .last .buffer) (c .put-number-end .last .buffer) (c .args .at) (c .put-text-comma .result) (c .put-number-end .result)
-        (done ++ codes ",") (decimal (getD ns (c .numbers .n-index) 0)) (omega arith) comma (c .put-number-end .ensures) in
+    (done ++ codes ",") (decimal (getD ns (c .numbers .n-index) 0)) (omega arith) comma (c .put-number-end .ensures) in
     let P : List ℕ → Type 0 = λ t. Put (c .args .buffer .now) (c .put-number-end .last .buffer) (c .args .at) t (c .put-number-end .result) in
     subst P (sym (after-commas-more ns (c .numbers .n-index) (omega arith))) number
 
