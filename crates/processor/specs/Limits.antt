@@ -16,5 +16,9 @@ longest-switch = 20000
 abbrev pub longest-frame : ℕ
 longest-frame = 20000
 
+-- room for the switches between all modes
+abbrev pub most-switches : ℕ
+most-switches = 256
+
 abbrev pub most-frames : ℕ
 most-frames = 8

@@ -1,4 +1,5 @@
 ghost use Prim.Native.Nat.{_≤_};
+ghost use mathlib.Core.Path.{_≡_};
 ghost use Rattle.processor.specs.Limits.{last-mode, top-speed, top-power, longest-switch};
 
 // The highest mode number.
@@ -37,5 +38,10 @@ pub struct Switch {
     pub from: u32,
     pub to: u32,
     pub time: u32,
+    ghost counted_from: { 1 ≤ from },
+    ghost numbered_from: { from ≤ last-mode },
+    ghost counted_to: { 1 ≤ to },
+    ghost numbered_to: { to ≤ last-mode },
+    ghost apart: { from ≡ to → ⊥ },
     ghost short: { time ≤ longest-switch },
 }

@@ -1,0 +1,74 @@
+ghost use Prim.Native.Nat.{_<_};
+ghost use mathlib.Core.Path.{_≡_};
+ghost use mathlib.Core.Bool.{not};
+ghost use lib.Dec.{ltb};
+ghost use lib.ListN.{length};
+ghost use Rattle.processor.specs.Tables.{mode-of, time-of, has-frame};
+ghost use Rattle.std.specs.Of.Vec.{vec-items};
+ghost use Rattle.std.specs.Options.{Cases as BySome};
+use crate::find::find_frame;
+use crate::find::find_mode;
+use crate::find::find_time;
+use crate::mode::Mode;
+use crate::splits::Splits;
+use crate::table::Processor;
+
+impl Processor {
+    // Whether a mode is listed at all.
+    pub fn has_mode(&self) -> bool
+        ensures { λ r. ⌜ r ≡ ltb 0 (length (vec-items (now (self .entry) .modes))) ⌝ }
+    {
+        self.modes.len() > 0
+    }
+
+    // The mode that was listed first.
+    pub fn first_mode(&self) -> Option<Mode> {
+        self.modes.first().copied()
+    }
+
+    // The mode of a number.
+    pub fn mode(&self, number: u32) -> Option<Mode>
+        ensures { λ r. ⌜ r ≡ mode-of number (vec-items (now (self .entry) .modes)) ⌝ }
+    {
+        find_mode(self.modes.as_slice(), number)
+    }
+
+    // The time of the switch from one mode to another; without it the switch is impossible.
+    pub fn switch_time(&self, from: u32, to: u32) -> Option<u32>
+        ensures { λ r. ⌜ r ≡ time-of from to (vec-items (now (self .entry) .switches)) ⌝ }
+    {
+        find_time(self.switches.as_slice(), from, to)
+    }
+
+    // Whether a frame is listed.
+    pub fn has_frame(&self, length: u32) -> bool
+        ensures { λ r. ⌜ r ≡ has-frame length (vec-items (now (self .entry) .frames)) ⌝ }
+    {
+        find_frame(self.frames.as_slice(), length)
+    }
+
+    // The longest listed frame that is shorter than the bound.
+    pub fn longest_frame_below(&self, bound: u32) -> Option<u32>
+        ensures { λ r. ⌜ BySome r (Unit {0}) (λ f. f < bound) ⌝ }
+    {
+        let mut longest = None;
+        'frames: for frame in self.frames.iter() {
+            if *frame < bound && longest.unwrap_or(0) < *frame {
+                longest = Some(*frame);
+            }
+        }
+        longest
+    }
+
+    // The splits of a listed frame between two listed modes with both switches listed, where there is one.
+    pub fn splits(&self, frame: u32, low: u32, high: u32) -> Option<Splits> {
+        if !self.has_frame(frame) {
+            return None;
+        }
+        let low_mode = self.mode(low)?;
+        let high_mode = self.mode(high)?;
+        let up = self.switch_time(low, high)?;
+        let down = self.switch_time(high, low)?;
+        Splits::new(low_mode, high_mode, up, down, frame)
+    }
+}
