@@ -1,5 +1,7 @@
 pub mod Products
 pub mod Gains
+pub mod Intervals
 pub mod Finds
 pub mod Pigeons
 pub mod Growth
+pub mod Streams

@@ -4,3 +4,8 @@ pub mod Drives
 pub mod Lists
 pub mod Tables
 pub mod Kept
+pub mod Pairs
+pub mod Made
+pub mod Candidates
+pub mod Intervals
+pub mod Costs

@@ -1,14 +1,17 @@
-ghost use Prim.Native.Nat.{_<_};
+ghost use Prim.Native.Nat.{ℕ, _<_};
 ghost use mathlib.Core.Path.{_≡_};
-ghost use mathlib.Core.Bool.{not};
 ghost use lib.Dec.{ltb};
 ghost use lib.ListN.{length};
+ghost use Rattle.processor.specs.Candidates.{Candidate, Named, On-frame};
+ghost use Rattle.processor.specs.Intervals.{Within, Split-of};
+ghost use Rattle.processor.specs.declared.drive.Pair.{Pair};
 ghost use Rattle.processor.specs.Tables.{mode-of, time-of, has-frame};
 ghost use Rattle.std.specs.Of.Vec.{vec-items};
 ghost use Rattle.std.specs.Options.{Cases as BySome};
 use crate::find::find_frame;
 use crate::find::find_mode;
 use crate::find::find_time;
+use crate::drive::Drive;
 use crate::mode::Mode;
 use crate::splits::Splits;
 use crate::table::Processor;
@@ -61,7 +64,9 @@ impl Processor {
     }
 
     // The splits of a listed frame between two listed modes with both switches listed, where there is one.
-    pub fn splits(&self, frame: u32, low: u32, high: u32) -> Option<Splits> {
+    pub fn splits(&self, frame: u32, low: u32, high: u32) -> Option<Splits>
+        ensures { λ r. ⌜ BySome r ((p : Pair) → On-frame (now (self .entry)) frame low high p → ⊥) (λ s. ((p : Pair) → On-frame (now (self .entry)) frame low high p → Within s (p .«high_time») × Split-of s (p .«high_time») p) × ((q : ℕ) (p : Pair) → Split-of s q p → On-frame (now (self .entry)) frame low high p)) ⌝ }
+    {
         if !self.has_frame(frame) {
             return None;
         }
@@ -70,5 +75,22 @@ impl Processor {
         let up = self.switch_time(low, high)?;
         let down = self.switch_time(high, low)?;
         Splits::new(low_mode, high_mode, up, down, frame)
+    }
+
+    // The candidate of two mode numbers and two times: a fixed drive is its mode twice, with the times 0.
+    pub fn candidate(&self, low: u32, high: u32, low_time: u32, high_time: u32) -> Option<Drive>
+        ensures { λ r. ⌜ BySome r ((d : Drive) → Candidate (now (self .entry)) d → Named low high «low_time» «high_time» d → ⊥) (λ d. Candidate (now (self .entry)) d × Named low high «low_time» «high_time» d) ⌝ }
+    {
+        if low == high {
+            if low_time != 0 || high_time != 0 {
+                return None;
+            }
+            let mode = self.mode(low)?;
+            return Some(Drive::Fixed(mode));
+        }
+        let frame = low_time.checked_add(high_time)?;
+        let splits = self.splits(frame, low, high)?;
+        let pair = splits.with_high_time(high_time)?;
+        Some(Drive::Pair(pair))
     }
 }
