@@ -43,3 +43,11 @@ module _ {X : Type 0} (p : X → Bool) where
   first-passes (y ∷ xs) x e =
       ⊎-elim (λ (t : p y ≡ true). let m : Some y ≡ Some x = rw t at e in let n : y ≡ x = cc in ap p (sym n) ∙ t)
       (λ (t : p y ≡ false). first-passes xs x (rw t at e)) (cases-bool (p y))
+
+-- the front of a list
+pub empty-list : {X : Type 0} (xs : List X) → length xs ≡ 0 → xs ≡ []
+empty-list [] e = refl
+empty-list (x ∷ xs) e = absurd (omega arith)
+
+pub front-found : {X : Type 0} (p : X → Bool) (xs : List X) (x : X) → 0 < length xs → x ≡ getD xs 0 x → p x ≡ true → first p xs ≡ Some x
+front-found p xs x h e q = first-found p xs 0 x h e refl q

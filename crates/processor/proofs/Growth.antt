@@ -30,7 +30,7 @@ is-none-mapped f None e = refl
 is-none-mapped f (Some x) e = let z : _≡_ {A = ℕ} 0 1 = cc in absurd (omega arith)
 
 -- what is found in a list is found in a longer one
-some-more : {X : Type 0} (p : X → Bool) (xs : List X) (x : X) → isSome (first p xs) ≡ true → isSome (first p (xs ++ x ∷ [])) ≡ true
+pub some-more : {X : Type 0} (p : X → Bool) (xs : List X) (x : X) → isSome (first p xs) ≡ true → isSome (first p (xs ++ x ∷ [])) ≡ true
 some-more p [] x e = let z : _≡_ {A = ℕ} 0 1 = cc in absurd (omega arith)
 some-more p (y ∷ xs) x e =
     ⊎-elim (λ (t : p y ≡ true). rw t) (λ (t : p y ≡ false). rw t (some-more p xs x (rw t at e))) (cases-bool (p y))

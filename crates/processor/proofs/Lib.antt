@@ -4,4 +4,5 @@ pub mod Intervals
 pub mod Finds
 pub mod Pigeons
 pub mod Growth
+pub mod Longest
 pub mod Streams

@@ -9,3 +9,4 @@ pub mod Made
 pub mod Candidates
 pub mod Intervals
 pub mod Costs
+pub mod Frames

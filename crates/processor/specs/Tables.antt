@@ -1,11 +1,11 @@
 -- What a processor table lists, and what it answers to an entry.
-use Prim.Native.Nat.{ℕ}
+use Prim.Native.Nat.{ℕ, _<_, _≤_}
 use mathlib.Core.List.{List, [], _∷_, _++_}
 use mathlib.Core.Path.{_≡_}
 use mathlib.Core.Bool.{Bool, true, false, cond}
 use lib.Dec.{eqb, ltb}
 use lib.ListN.{length}
-use Rattle.std.specs.Options.{isSome, mapped}
+use Rattle.std.specs.Options.{isSome, mapped, Cases}
 use Rattle.std.specs.declared.option.Option.{Option}
 use Rattle.std.specs.declared.result.Result.{Result}
 use Rattle.std.specs.declared.result.Result.the-variants.{Ok, Err}
@@ -45,6 +45,12 @@ has-switch a b ss = isSome (time-of a b ss)
 
 abbrev pub has-frame : ℕ → List ℕ → Bool
 has-frame p ps = isSome (first (lasts p) ps)
+
+-- the longest listed frame that is shorter than a bound, or none where no frame is
+abbrev pub Longest-below : ℕ → List ℕ → Option ℕ → Type 0
+Longest-below bound ps r =
+    Cases r ((p : ℕ) → has-frame p ps ≡ true → bound ≤ p)
+    (λ f. (f < bound) × (has-frame f ps ≡ true) × ((p : ℕ) → has-frame p ps ≡ true → p < bound → p ≤ f))
 
 -- the answer to one mode more
 abbrev pub mode-answer : List Mode → ℕ → ℕ → ℕ → Result (Unit {0}) Refusal

@@ -1,6 +1,10 @@
 ghost use Prim.Native.Nat.{_<_, _≤_};
 ghost use mathlib.Core.Path.{_≡_};
-ghost use Rattle.processor.specs.Tables.{mode-of, time-of, has-frame, leads};
+ghost use Rattle.processor.specs.Tables.{mode-of, time-of, has-frame, leads, Longest-below};
+ghost use mathlib.Core.List.{[]};
+ghost use Rattle.std.specs.Options.{Cases as BySome};
+ghost use Rattle.std.specs.declared.option.Option.the-variants.{Some};
+ghost use Rattle.processor.specs.Frames.{longer-of};
 use crate::mode::Mode;
 use crate::mode::Switch;
 
@@ -14,6 +18,16 @@ pub(crate) fn find_mode(modes: &[Mode], number: u32) -> Option<Mode>
         }
     }
     None
+}
+
+// The mode that was listed first.
+pub(crate) fn find_first(modes: &[Mode]) -> Option<Mode>
+    ensures { λ r. ⌜ BySome r (now (modes .entry) ≡ []) (λ m. mode-of (m .number) (now (modes .entry)) ≡ Some m) ⌝ }
+{
+    if modes.is_empty() {
+        return None;
+    }
+    Some(modes[0])
 }
 
 // The time of the switch from one mode to another.
@@ -38,6 +52,36 @@ pub(crate) fn find_frame(frames: &[u32], length: u32) -> bool
         }
     }
     false
+}
+
+// The longer of two frames that are shorter than a bound.
+fn longer(longest: Option<u32>, frame: u32, bound: u32) -> Option<u32>
+    ensures { λ r. ⌜ r ≡ longer-of bound frame longest ⌝ }
+{
+    if frame >= bound {
+        return longest;
+    }
+    match longest {
+        Some(other) => {
+            if other < frame {
+                Some(frame)
+            } else {
+                Some(other)
+            }
+        }
+        None => Some(frame),
+    }
+}
+
+// The longest frame that is shorter than a bound.
+pub(crate) fn find_longest(frames: &[u32], bound: u32) -> Option<u32>
+    ensures { λ r. ⌜ Longest-below bound (now (frames .entry)) r ⌝ }
+{
+    let mut longest = None;
+    'frames: for frame in frames {
+        longest = longer(longest, *frame, bound);
+    }
+    longest
 }
 
 impl Switch {

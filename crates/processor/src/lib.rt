@@ -10,3 +10,5 @@ pub mod mode;
 pub mod refusal;
 pub mod splits;
 pub mod table;
+#[cfg(test)]
+mod tests;

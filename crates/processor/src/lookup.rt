@@ -1,14 +1,18 @@
-ghost use Prim.Native.Nat.{ℕ, _<_};
+ghost use Prim.Native.Nat.{ℕ};
 ghost use mathlib.Core.Path.{_≡_};
 ghost use lib.Dec.{ltb};
 ghost use lib.ListN.{length};
 ghost use Rattle.processor.specs.Candidates.{Candidate, Named, On-frame};
 ghost use Rattle.processor.specs.Intervals.{Within, Split-of};
 ghost use Rattle.processor.specs.declared.drive.Pair.{Pair};
-ghost use Rattle.processor.specs.Tables.{mode-of, time-of, has-frame};
+ghost use Rattle.processor.specs.Tables.{mode-of, time-of, has-frame, Longest-below};
+ghost use mathlib.Core.List.{[]};
+ghost use Rattle.processor.specs.declared.drive.Drive.the-variants.{Fixed};
 ghost use Rattle.std.specs.Of.Vec.{vec-items};
 ghost use Rattle.std.specs.Options.{Cases as BySome};
+use crate::find::find_first;
 use crate::find::find_frame;
+use crate::find::find_longest;
 use crate::find::find_mode;
 use crate::find::find_time;
 use crate::drive::Drive;
@@ -25,8 +29,10 @@ impl Processor {
     }
 
     // The mode that was listed first.
-    pub fn first_mode(&self) -> Option<Mode> {
-        self.modes.first().copied()
+    pub fn first_mode(&self) -> Option<Mode>
+        ensures { λ r. ⌜ BySome r (vec-items (now (self .entry) .modes) ≡ []) (λ m. Candidate (now (self .entry)) (Fixed m)) ⌝ }
+    {
+        find_first(self.modes.as_slice())
     }
 
     // The mode of a number.
@@ -52,15 +58,9 @@ impl Processor {
 
     // The longest listed frame that is shorter than the bound.
     pub fn longest_frame_below(&self, bound: u32) -> Option<u32>
-        ensures { λ r. ⌜ BySome r (Unit {0}) (λ f. f < bound) ⌝ }
+        ensures { λ r. ⌜ Longest-below bound (vec-items (now (self .entry) .frames)) r ⌝ }
     {
-        let mut longest = None;
-        'frames: for frame in self.frames.iter() {
-            if *frame < bound && longest.unwrap_or(0) < *frame {
-                longest = Some(*frame);
-            }
-        }
-        longest
+        find_longest(self.frames.as_slice(), bound)
     }
 
     // The splits of a listed frame between two listed modes with both switches listed, where there is one.
