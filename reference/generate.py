@@ -1,6 +1,7 @@
 """Random pairs of files: good ones, of several kinds, and damaged ones."""
 
-from files import LONGEST_FILE
+from files import LONGEST_FILE, Processor
+from plan import pair_streams
 
 PROCESSOR_HEADER = "kind,a,b,c"
 TASKS_HEADER = "rank,cycles,fixed,period,deadline"
@@ -26,7 +27,7 @@ def good_processor(rng):
         ["mode", number, speed, power] for number, (speed, power) in zip(numbers, speeds_and_powers(rng, count))
     ]
     listed = rng.choice([0.5, 0.9, 1, 1, 1])
-    slow = rng.choice([0, 1, 3, longest // 12, longest // 4])
+    slow = rng.choice([0, 1, 3, longest // 12, longest // 8, longest // 4])
     switches = [
         ["switch", start, end, rng.randint(0, slow)]
         for start in numbers
@@ -76,6 +77,43 @@ def good_tasks(rng, processor):
     return records
 
 
+def processor_of(records):
+    """The processor that some records say."""
+    processor = Processor()
+    for kind, *figures in records:
+        if kind == "mode":
+            processor.add_mode(0, *figures)
+        elif kind == "switch":
+            processor.add_switch(0, *figures)
+        else:
+            processor.add_frame(0, figures[0])
+    return processor
+
+
+def tight_tasks(rng, records):
+    """A few tasks whose work until a deadline is just what some pair supplies, or a cycle more or less."""
+    streams = [stream for stream in pair_streams(processor_of(records)) if stream.high_times]
+    if not streams:
+        return good_tasks(rng, records)
+    drive = rng.choice(list(rng.choice(streams)))
+    frame = drive.frame
+    tasks = []
+    for rank in rng.sample(range(1, 256), rng.choice([1, 1, 2, 3])):
+        period = frame * rng.randint(1, 3)
+        deadline = rng.randint(1, rng.choice([frame, period]))
+        if frame <= 240 and rng.random() < 0.5:
+            period = rng.randint(deadline, 2 * deadline)
+        fixed = rng.choice([0, 0, 0, rng.randint(0, deadline // 4)])
+        work = drive.supply(deadline)
+        for _, other_cycles, other_fixed, other_period, other_deadline in tasks:
+            if other_deadline <= deadline:
+                jobs = (deadline - other_deadline) // other_period + 1
+                work -= jobs * (other_cycles + other_fixed * drive.high_speed)
+        cycles = work - fixed * drive.high_speed + rng.choice([-1, 0, 0, 0, 1])
+        tasks.append([rank, max(1, cycles), fixed, period, deadline])
+    return tasks
+
+
 def odd_task(rng, ranks, periods):
     """A task that is mostly refused: a repeated rank, a figure outside of its limits, a period outside of the span."""
     period = rng.choice(periods)
@@ -108,7 +146,7 @@ def file_bytes(rng, header, records):
 
 def good_pair(rng):
     processor = good_processor(rng)
-    tasks = good_tasks(rng, processor)
+    tasks = rng.choice([good_tasks, tight_tasks])(rng, processor)
     return file_bytes(rng, PROCESSOR_HEADER, processor), file_bytes(rng, TASKS_HEADER, tasks)
 
 
@@ -183,7 +221,7 @@ PROCESSOR_DAMAGE = EITHER_FILE + [
     no_modes,
     many_frames,
     switch_to_itself,
-    set_field(None, 0, ["Mode", "modes", "", "frame ", '"mode""', "switch", "frame", "mode"]),
+    set_field(None, 0, ["Mode", "modes", "", "frame ", "~", '"mode""', "switch", "frame", "mode"]),
     set_field("frame", 2, ["0", "1", " "]),
     set_field("frame", 3, ["0", "1", " "]),
     set_field("frame", 1, [0, 1, 20000, 20001, "x", ""]),
@@ -219,7 +257,7 @@ def edit_bytes(rng, data):
 
 def quote_fields(rng, data):
     """A field in quotes, with things in them that only quotes allow, or with quotes that are not closed."""
-    inside = rng.choice([b"1", b"a,b", b"\r\n", b"\r", b"\n", b'""', b"", b"\t", b"\x80"])
+    inside = rng.choice([b"1", b"a,b", b"\r\n", b"\r", b"\n", b'""', b"", b"\t", b"~", b"\x7f", b"\x80"])
     whole = b'"' + inside + b'"'
     quoted = rng.choice([whole, whole, whole, b'"' + inside, whole + b"x", b"x" + whole])
     marks = [0] + [at + 1 for at in range(len(data)) if data[at : at + 1] in (b",", b"\n")]
