@@ -114,31 +114,30 @@ def fixed_drives(processor):
     return [Fixed(number, *processor.modes[number]) for number in sorted(processor.modes)]
 
 
-def pair_streams(processor):
-    """The lawful pairs, as lists with the same two modes and frame, in the order in which ties are broken.
+class PairStream:
+    """The lawful pairs of two modes and a frame. Their costs do not fall, and of equal costs the shorter high time comes first."""
 
-    In each list costs do not fall, and of equal costs the shorter high time comes first.
-    """
-    streams = []
-    for frame in sorted(processor.frames, reverse=True):
-        for low in sorted(processor.modes):
-            for high in sorted(processor.modes):
-                up = processor.switches.get((low, high))
-                down = processor.switches.get((high, low))
-                if up is None or down is None:
-                    continue
-                low_speed, low_power = processor.modes[low]
-                high_speed, high_power = processor.modes[high]
-                pairs = (
-                    Pair(low, high, low_speed, high_speed, low_power, high_power, up, down, frame, high_time)
-                    for high_time in range(1, frame)
-                )
-                stream = [pair for pair in pairs if pair.lawful()]
-                if high_power < low_power:
-                    stream.reverse()
-                if stream:
-                    streams.append(stream)
-    return streams
+    def __init__(self, processor, low, high, frame):
+        low_speed, low_power = processor.modes[low]
+        high_speed, high_power = processor.modes[high]
+        up, down = processor.switches[low, high], processor.switches[high, low]
+        self.figures = (low, high, low_speed, high_speed, low_power, high_power, up, down, frame)
+        lawful = [time for time in range(1, frame) if Pair(*self.figures, time).lawful()]
+        self.high_times = lawful if low_power <= high_power else lawful[::-1]
+
+    def __iter__(self):
+        return (Pair(*self.figures, high_time) for high_time in self.high_times)
+
+
+def pair_streams(processor):
+    """All lawful pairs, in the order in which ties are broken."""
+    return [
+        PairStream(processor, low, high, frame)
+        for frame in sorted(processor.frames, reverse=True)
+        for low in sorted(processor.modes)
+        for high in sorted(processor.modes)
+        if (low, high) in processor.switches and (high, low) in processor.switches
+    ]
 
 
 class Edf:
