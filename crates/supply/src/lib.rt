@@ -1,2 +1,4 @@
 pub mod formula;
 pub mod platform;
+pub mod sliding;
+pub mod window;
