@@ -1,4 +1,8 @@
 pub mod formula;
+pub mod holdoff;
+pub mod layer;
 pub mod platform;
+pub mod sample;
+pub mod share;
 pub mod sliding;
 pub mod window;
