@@ -5,4 +5,6 @@ pub mod platform;
 pub mod sample;
 pub mod share;
 pub mod sliding;
+#[cfg(test)]
+mod tests;
 pub mod window;
