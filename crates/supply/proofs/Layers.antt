@@ -1,7 +1,6 @@
 -- The layers keep the laws of the supply below.
 use Prim.Native.Nat.{ℕ, _+_, _*_, _-_, _/_, _<_, _≤_}
-use mathlib.Core.Path.{_≡_, sym, ap}
-use mathlib.Core.Logic.{⊎-elim}
+use mathlib.Core.Path.{_≡_, ap}
 use native.Mathlib.Omega.{arith}
 use native.Mathlib.Nat.{le-trans, zero-mul, zero-div, add-mul, mul-comm, mul-le-mul-left, mul-le-mul-right, div-mul-le-self, div-le-of-le-mul}
 use Rattle.std.proofs.shelf.Bits.{le-div}

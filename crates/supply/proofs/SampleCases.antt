@@ -6,8 +6,8 @@ use Rattle.processor.specs.declared.drive.Pair.{Pair}
 use Rattle.processor.specs.declared.drive.Drive.the-variants.{Pair as Turns}
 use Rattle.supply.specs.Patterns.{Pattern, pattern-of, supply-of}
 use Rattle.supply.specs.Formulas.{piece, closed}
-use Rattle.supply.specs.Layers.{share-of, holdoff-of}
-use Rattle.supply.specs.Samples.{Sample, Sampled, Samples-supply}
+use Rattle.supply.specs.Layers.{share-of}
+use Rattle.supply.specs.Samples.{Sample, Samples-supply}
 use Rattle.supply.proofs.Supplies.{sum-is-closed}
 
 abbrev sample : Pattern

@@ -41,6 +41,7 @@ pub impl<P: Platform> Platform for Share<P> as SharePlatform {
 
     fn supplied(&self, drive: &Drive, window: u32) -> Result<u64, Refusal> {
         let cycles = self.below.supplied(drive, window)?;
-        Ok(cycles * u64::from(self.num) / u64::from(self.den))
+        let parts = cycles * u64::from(self.num);
+        Ok(parts / u64::from(self.den))
     }
 }

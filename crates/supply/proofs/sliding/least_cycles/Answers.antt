@@ -8,7 +8,7 @@ use Rattle.supply.proofs.Supplies.{speed-small, window-small, least-start, lea
 use Rattle.supply.proofs.sliding.least_cycles.Needs as need
 
 pub starts-holds : need.starts-holds
-starts-holds c = (c .first-cycles-cycles .ensures, c .first-cycles-cycles .ensures ∙ least-start _ _)
+starts-holds c = let e = least-start (pattern-of (c .args .pair .now)) (c .args .rest) in (omega arith, omega arith)
 
 pub add-cycles : need.add-cycles
 add-cycles c =

@@ -6,8 +6,8 @@ use Rattle.supply.specs.Laws.{longest-window}
 use Rattle.supply.proofs.Layers.{answer-small}
 use Rattle.supply.proofs.share.SharePlatform.supplied.Needs as need
 
-pub mul-result : need.mul-result
-mul-result g c =
+pub mul-parts : need.mul-parts
+mul-parts g c =
     let below = c .args .self .now .below in
     let drive = c .args .drive .now in
     let h = answer-small drive (g .P·Platform .supply below drive) (g .P·Platform·met .lawful below drive) (c .args .window) (c .in-Continue-cycles .cycles) (c .in-Continue-cycles .ensures tt) in
