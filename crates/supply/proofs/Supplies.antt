@@ -1,21 +1,22 @@
 -- The least windows of two modes in turn.
 use Prim.Native.Nat.{ℕ, suc, _+_, _*_, _-_, _/_, _%_, _<_, _≤_, min}
-use mathlib.Core.Path.{_≡_, sym, ap, ap₂, _∙_}
+use mathlib.Core.Path.{_≡_, refl, sym, ap, ap₂, _∙_}
 use mathlib.Core.Logic.{⊎-elim}
 use native.Mathlib.Omega.{arith}
-use native.Mathlib.Nat.{mod-lt, mod-eq-of-lt, mul-zero, mul-suc, mul-add, mul-le-mul-left, mul-le-mul-right}
+use native.Mathlib.Numerals.{add-one}
+use native.Mathlib.Nat.{mod-lt, mod-mod, mod-eq-of-lt, mul-zero, mul-suc, mul-add, mul-le-mul-left, mul-le-mul-right}
 use Rattle.std.proofs.shelf.Tests.{cases-lt}
 use Rattle.std.proofs.shelf.Ways.{tells}
-use Rattle.supply.specs.Windows.{window, Least}
+use Rattle.supply.specs.Windows.{window, Least, least-upto}
 use Rattle.processor.specs.declared.drive.Drive.{Drive}
 use Rattle.processor.specs.declared.drive.Drive.the-variants.{Fixed, Pair as Turns}
 use Rattle.processor.specs.declared.drive.Pair.{Pair}
 use Rattle.processor.specs.Drives.{peak}
 use Rattle.processor.specs.Limits.{top-speed}
 use Rattle.supply.specs.Laws.{Lawful}
-use Rattle.supply.specs.Patterns.{Pattern, frame, speed-in-frame, speed, least-sum, pattern-of, supply-of}
+use Rattle.supply.specs.Patterns.{Pattern, frame, speed-in-frame, speed, least-sum, pattern-of, supply-of, Supply-is-least}
 use Rattle.supply.specs.Formulas.{cycles, longer-switch, piece, closed}
-use Rattle.supply.proofs.Windows.{least-lawful, least-in-period}
+use Rattle.supply.proofs.Windows.{window-steady, window-repeats, window-below, least-lawful, least-in-period, least-upto-plus}
 use Rattle.supply.proofs.Frames.{window-inside, window-across, window-frames}
 
 -- what the pattern of a pair keeps
@@ -202,6 +203,19 @@ module _ (m : Pattern) (sound : Sound m) where
       let e = ap (λ v. t / frame m * v) done-frame in
       omega arith
 
+  pub frame-window : window (speed m) 0 (frame m) ≡ cycles m
+  frame-window =
+      let w = across 0 (frame m) 0 some some (omega arith) in let a = done-start in let b = done-frame in omega arith
+
+  -- and so out of the least sum
+  pub least-rest : (t : ℕ) → least-sum m t ≡ t / frame m * window (speed m) 0 (frame m) + least-sum m (t % frame m)
+  unfolding least-sum
+  least-rest t =
+      rw frame-window
+      (least-upto-plus (λ s. window (speed m) s t) (λ s. window (speed m) s (t % frame m)) (t / frame m * cycles m) (frame m - 1)
+      (λ s. let w = window-rest s t in
+      let r = window-repeats (speed-in-frame m) (frame m) (s % frame m) s (t % frame m) (mod-mod s (frame m)) in omega arith))
+
   pub supply-bound : (t s : ℕ) → closed m t ≤ window (speed m) s t
   unfolding closed
   supply-bound t s =
@@ -231,6 +245,23 @@ module _ (m : Pattern) (sound : Sound m) where
   pub sum-lawful : Lawful (m .high-speed) (least-sum m)
   sum-lawful = least-lawful (speed m) (least-sum m) (m .high-speed) speed-top sum-least
 
+-- the least sum over the starts up to n
+pub least-so-far : Pattern → ℕ → ℕ → ℕ
+least-so-far m t n = least-upto (λ s. window (speed m) s t) n
+
+pub least-start : (m : Pattern) (t : ℕ) → window (speed m) 0 t ≡ least-so-far m t 0
+unfolding least-so-far least-upto
+least-start m t = refl
+
+pub least-more : (m : Pattern) (t n : ℕ) → min (least-so-far m t n) (window (speed m) (n + 1) t) ≡ least-so-far m t (n + 1)
+unfolding least-so-far least-upto
+least-more m t n = rw add-one refl
+
+pub least-all : (p : Pair) (t n : ℕ) → n ≡ p .frame - 1 → least-so-far (pattern-of p) t n ≡ least-sum (pattern-of p) t
+unfolding least-so-far least-sum
+least-all p t n e =
+    let d : n ≡ frame (pattern-of p) - 1 = omega (arith, p .whole) in ap (least-upto (λ s. window (speed (pattern-of p)) s t)) d
+
 -- every pair has such a pattern
 pub pair-sound : (p : Pair) → Sound (pattern-of p)
 pair-sound p = record {
@@ -239,6 +270,12 @@ pair-sound p = record {
   faster = p .faster;
   worth = (let e = p .whole in let f = ap (λ v. p .low .speed * v) e in omega (arith, p .gains));
 }
+
+pub speed-small : (p : Pair) (i : ℕ) → speed (pattern-of p) i ≤ top-speed
+speed-small p i = let h = speed-top (pattern-of p) (pair-sound p) i in omega (arith, p .high .slow)
+
+pub window-small : (p : Pair) (s t : ℕ) → window (speed (pattern-of p)) s t ≤ top-speed * t
+window-small p s t = window-below (speed (pattern-of p)) top-speed (speed-small p) s t
 
 pub drive-lawful : (d : Drive) → Lawful (peak d) (supply-of d)
 drive-lawful (Fixed m) = record {
@@ -249,17 +286,30 @@ drive-lawful (Fixed m) = record {
 }
 drive-lawful (Turns p) = sum-lawful (pattern-of p) (pair-sound p)
 
+pub drive-least : Supply-is-least
+drive-least (Fixed m) t = record { bound = λ s. (let e = window-steady (m .speed) s t in omega arith); reached = (0, window-steady (m .speed) 0 t) }
+drive-least (Turns p) t = sum-least (pattern-of p) (pair-sound p) t
+
 -- the closed formula by the frame of a pair
 pub closed-at : (p : Pair) (t : ℕ) → closed (pattern-of p) t ≡ t / p .frame * cycles (pattern-of p) + piece (pattern-of p) (t % p .frame)
 unfolding closed
 closed-at p t = ap (λ v. t / v * cycles (pattern-of p) + piece (pattern-of p) (t % v)) (p .whole)
 
-pub closed-below : (p : Pair) (t : ℕ) → closed (pattern-of p) t ≤ top-speed * t
-closed-below p t =
-    let e = sum-closed (pattern-of p) (pair-sound p) t in
+pub sum-is-closed : (p : Pair) (t : ℕ) → least-sum (pattern-of p) t ≡ closed (pattern-of p) t
+sum-is-closed p t = sum-closed (pattern-of p) (pair-sound p) t
+
+-- the same by the frame of a pair
+pub least-at : (p : Pair) (t : ℕ)
+    → least-sum (pattern-of p) t ≡ t / p .frame * window (speed (pattern-of p)) 0 (p .frame) + least-sum (pattern-of p) (t % p .frame)
+least-at p t =
+    least-rest (pattern-of p) (pair-sound p) t
+    ∙ ap (λ v. t / v * window (speed (pattern-of p)) 0 v + least-sum (pattern-of p) (t % v)) (p .whole)
+
+pub least-below : (p : Pair) (t : ℕ) → least-sum (pattern-of p) t ≤ top-speed * t
+least-below p t =
     let h = sum-lawful (pattern-of p) (pair-sound p) .below t in
     let k : p .high .speed * t ≤ top-speed * t = mul-le-mul-right t (p .high .slow) in
     omega arith
 
-pub sum-is-closed : (p : Pair) (t : ℕ) → least-sum (pattern-of p) t ≡ closed (pattern-of p) t
-sum-is-closed p t = sum-closed (pattern-of p) (pair-sound p) t
+pub closed-below : (p : Pair) (t : ℕ) → closed (pattern-of p) t ≤ top-speed * t
+closed-below p t = let e = sum-is-closed p t in let h = least-below p t in omega arith

@@ -20,6 +20,26 @@ window-joins f s (suc a) b =
     let ih = window-joins f (suc s) a b in
     rw (e, d) (omega arith)
 
+-- one more place, and the window one place on
+pub window-more : (f : ℕ → ℕ) (s t : ℕ) → window f s (t + 1) ≡ window f s t + f (s + t)
+unfolding window
+window-more f s t = let j = window-joins f s t 1 in omega arith
+
+pub window-slides : (f : ℕ → ℕ) (s t : ℕ) → window f (s + 1) t + f s ≡ window f s t + f (s + t)
+unfolding window
+window-slides f s t =
+    let j = window-joins f s 1 t in
+    let e : 1 + t ≡ t + 1 = omega arith in
+    let a = ap (window f s) e in
+    let m = window-more f s t in
+    omega arith
+
+-- a pattern of one speed
+pub window-steady : (v s t : ℕ) → window (λ _. v) s t ≡ v * t
+unfolding window
+window-steady v s zero = omega arith
+window-steady v s (suc t) = let ih = window-steady v (suc s) t in rw (mul-suc v t) (omega arith)
+
 -- sums as differences of a running total
 pub window-total : (f F : ℕ → ℕ) → ((x : ℕ) → F (suc x) ≡ F x + f x) → (s t : ℕ) → F s + window f s t ≡ F (s + t)
 unfolding window
@@ -68,6 +88,12 @@ pub le-least-upto : (f : ℕ → ℕ) (n z : ℕ) → ((k : ℕ) → z ≤ f k) 
 unfolding least-upto
 le-least-upto f zero z h = h 0
 le-least-upto f (suc n) z h = let ih = le-least-upto f n z h in let a = h (suc n) in omega arith
+
+-- the least of a sum with a constant
+pub least-upto-plus : (f g : ℕ → ℕ) (c n : ℕ) → ((k : ℕ) → f k ≡ c + g k) → least-upto f n ≡ c + least-upto g n
+unfolding least-upto
+least-upto-plus f g c zero h = h 0
+least-upto-plus f g c (suc n) h = let ih = least-upto-plus f g c n h in let a = h (suc n) in omega arith
 
 -- a pattern that repeats
 module _ (g : ℕ → ℕ) (P : ℕ) where

@@ -1,5 +1,5 @@
 -- The closed formula of the least window sum: whole frames, and one of four pieces for the rest.
-use Prim.Native.Nat.{ℕ, _+_, _*_, _-_, _/_, _%_, _<_, max}
+use Prim.Native.Nat.{ℕ, _+_, _*_, _-_, _/_, _%_, max}
 use mathlib.Core.Bool.{cond}
 use lib.Dec.{ltb}
 use Rattle.supply.specs.Patterns.{Pattern, frame}

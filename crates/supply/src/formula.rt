@@ -1,9 +1,9 @@
-ghost use Prim.Native.Nat.{_/_, _%_, _<_, _≤_};
 ghost use mathlib.Core.Path.{_≡_};
 ghost use Rattle.supply.specs.Patterns.{supply-of, pattern-of};
 ghost use Rattle.supply.specs.Formulas.{cycles, piece, closed};
 use crate::platform::LONGEST_WINDOW;
 use crate::platform::Platform;
+use crate::window::split;
 use processor::drive::Drive;
 use processor::drive::Pair;
 use processor::refusal::Refusal;
@@ -11,13 +11,6 @@ use processor::refusal::Refusal;
 // A bare processor, which answers by the closed formula of the least window sum.
 #[derive(Clone, Copy)]
 pub struct Formula;
-
-// The whole frames of a pair in a window, and the rest.
-pub fn split(pair: &Pair, window: u32) -> (u32, u32)
-    ensures { λ r. ⌜ r ≡ (window / now (pair .entry) .frame, window % now (pair .entry) .frame) ⌝ }
-{
-    (window / pair.frame, window % pair.frame)
-}
 
 // The cycles of a whole frame.
 fn frame_cycles(pair: &Pair) -> u64

@@ -9,7 +9,8 @@ use processor::refusal::Refusal;
 // The longest window that may be asked for, in microseconds.
 pub const LONGEST_WINDOW: u32 = 1_000_000;
 
-// What runs a drive, by the least cycles that it supplies in any window of a length.
+// What runs a drive, by the least cycles that it supplies in any window of a length. A platform that lacks a drive
+// supplies 0 for it.
 pub trait Platform {
     ghost supply: { Self → Drive → ℕ → ℕ };
 
