@@ -36,7 +36,7 @@ def write_pair(folder, pair):
 
 def run(program, paths):
     try:
-        done = subprocess.run([program, *paths], stdout=subprocess.PIPE, timeout=TIME_LIMIT)
+        done = subprocess.run([program, *paths], stdout=subprocess.PIPE, stderr=subprocess.DEVNULL, timeout=TIME_LIMIT)
     except subprocess.TimeoutExpired:
         return b"", "over the time limit"
     return done.stdout, done.returncode

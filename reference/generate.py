@@ -134,7 +134,7 @@ def field_text(rng, field):
     """A field as text: mostly plain, now and then with zeros in front or in quotes."""
     text = str(field)
     if text.isdigit() and rng.random() < 0.02:
-        text = text.zfill(rng.randint(len(text), 10))
+        text = text.zfill(rng.randint(1, 10))
     return f'"{text}"' if rng.random() < 0.02 else text
 
 
@@ -177,8 +177,9 @@ def repeat_record(rng, records):
 
 
 def drop_field(rng, records):
-    if records:
-        rng.choice(records).pop()
+    record = some_record(rng, records)
+    if record is not None and len(record) > 1:
+        record.pop()
 
 
 def add_field(rng, records):
