@@ -1,2 +1,4 @@
 pub mod program;
 pub mod size;
+#[cfg(test)]
+mod tests;

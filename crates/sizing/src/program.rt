@@ -9,13 +9,22 @@ use std::io;
 use std::io::Read;
 use std::io::Write;
 
-// The bytes of a file, and one more than a file may have at most. One that can't be opened counts as empty.
+// The bytes of a file, at most one more than a file may have. One that can't be opened or read counts as empty.
 fn read_file(rt: &LibcRuntime, path: &str) -> io::Result<Vec<u8>> {
     let mut bytes = Vec::new(rt.alloc());
-    if let Ok(file) = File::open(rt, path) {
-        file.take(LONGEST_FILE as u64 + 1).read_to_end(&mut bytes)?;
+    let Ok(file) = File::open(rt, path) else {
+        return Ok(bytes);
+    };
+    match file.take(LONGEST_FILE as u64 + 1).read_to_end(&mut bytes) {
+        Ok(_) => Ok(bytes),
+        Err(error) => {
+            if error.kind() == io::ErrorKind::OutOfMemory {
+                return Err(error);
+            }
+            bytes.clear();
+            Ok(bytes)
+        }
     }
-    Ok(bytes)
 }
 
 // The two paths, the processor's first.
