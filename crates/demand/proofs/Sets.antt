@@ -18,6 +18,7 @@ use Rattle.demand.specs.declared.task.Task.{Task}
 use Rattle.demand.specs.declared.task.Figures.{Figures}
 use Rattle.demand.specs.declared.set.TaskSet.{TaskSet}
 use Rattle.demand.specs.Figures.{figures-of, with-work, no-figures}
+use Rattle.demand.proofs.Fewer.{map-removed}
 use Rattle.demand.specs.Ranks.{Distinct, ranks, has-rank, Set}
 
 -- ---- lists of numbers
@@ -70,13 +71,7 @@ take-apart n ts d = subst Distinct (take-map rank-of n ts) (distinct-take n (ran
 pub removed-apart : (ts : List Task) (k : ℕ) → k < length ts → Distinct (ranks ts) → Distinct (ranks (removed ts k))
 removed-apart ts k h d =
     let l = length-map ts rank-of in
-    subst Distinct (sym (ranks-removed ts k)) (distinct-removed (ranks ts) k (omega arith) d)
-  where
-    ranks-removed : (us : List Task) (i : ℕ) → ranks (removed us i) ≡ removed (ranks us) i
-    ranks-removed [] zero = refl
-    ranks-removed [] (suc i) = refl
-    ranks-removed (u ∷ us) zero = refl
-    ranks-removed (u ∷ us) (suc i) = ap (λ ns. u .rank ∷ ns) (ranks-removed us i)
+    subst Distinct (sym (map-removed rank-of ts k)) (distinct-removed (ranks ts) k (omega arith) d)
 
 -- what has no rank n has it at no place
 pub unranked : (n : ℕ) (ts : List Task) → has-rank n ts ≡ false → (k : ℕ) → k < length (ranks ts) → getD (ranks ts) k 0 ≡ n → ⊥

@@ -30,3 +30,7 @@ pub record Work (n m : ℕ) : Type 0 where
   pub works : 1 ≤ n
   pub light : n ≤ most-cycles
   pub brief : m ≤ longest-fixed
+
+-- the rank, the period and the deadline
+abbrev pub times-of : Task → ℕ × ℕ × ℕ
+times-of t = (t .rank, t .period, t .deadline)
