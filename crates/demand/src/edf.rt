@@ -1,7 +1,12 @@
-ghost use Prim.Native.Nat.{_+_, _*_, _<_, _≤_};
+ghost use Prim.Native.Nat.{ℕ, _+_, _*_, _<_, _≤_};
 ghost use Rattle.demand.specs.Limits.{longest-span, most-tasks};
 ghost use Rattle.demand.specs.Charges.{charges};
-ghost use Rattle.demand.specs.Demand.{demand, jobs};
+ghost use Rattle.demand.specs.Demand.{demand, jobs, Edf-full};
+ghost use Rattle.demand.specs.Hyper.{gcd, lcm, hyper, periods, within-span, edf-span, Least};
+ghost use Rattle.demand.specs.Listings.{edf-groups, edf-times, Deadline};
+ghost use Rattle.std.specs.Finite.{nth};
+ghost use mathlib.Core.List.{List·Memᴰ};
+ghost use mathlib.Core.Logic.{_↔_};
 ghost use Rattle.processor.specs.Drives.{peak};
 ghost use mathlib.Core.Path.{_≡_};
 ghost use lib.ListN.{length};
@@ -19,7 +24,9 @@ pub const LONGEST_SPAN: u32 = 1_000_000;
 pub struct Edf;
 
 // The greatest common divisor, by Euclid.
-fn common_divisor(a: u32, b: u32) -> u32 {
+fn common_divisor(a: u32, b: u32) -> u32
+    ensures { λ r. ⌜ r ≡ gcd a b ⌝ }
+{
     let mut big = a;
     let mut small = b;
     'euclid: while small > 0 {
@@ -32,12 +39,10 @@ fn common_divisor(a: u32, b: u32) -> u32 {
 
 // The least common multiple of a period and the periods before it, unless it is longer than the span.
 fn common_multiple(so_far: u32, period: u32) -> Option<u32>
-    ensures { λ r. ⌜ BySome r (Unit {0}) (λ h. h ≤ longest-span) ⌝ }
+    requires { ⌜ 1 ≤ «so_far» ⌝ }
+    ensures { λ r. ⌜ r ≡ within-span (lcm «so_far» period) ⌝ }
 {
     let divisor = common_divisor(so_far, period);
-    if divisor == 0 {
-        return None;
-    }
     let multiple = u64::from(so_far / divisor) * u64::from(period);
     if multiple > u64::from(LONGEST_SPAN) {
         return None;
@@ -46,8 +51,9 @@ fn common_multiple(so_far: u32, period: u32) -> Option<u32>
 }
 
 // The least common multiple of all periods, 1 without tasks.
-fn hyperperiod(tasks: &[Task]) -> Option<u32>
-    ensures { λ r. ⌜ BySome r (Unit {0}) (λ h. h ≤ longest-span) ⌝ }
+pub fn hyperperiod(tasks: &[Task]) -> Option<u32>
+    ensures value { λ r. ⌜ r ≡ within-span (hyper (periods (now (tasks .entry)))) ⌝ }
+    ensures least { λ _. ⌜ Least (periods (now (tasks .entry))) (hyper (periods (now (tasks .entry)))) ⌝ }
 {
     let mut hyper = 1;
     'periods: for task in tasks {
@@ -68,19 +74,21 @@ impl Task {
     }
 }
 
-// The deadlines up to the hyperperiod, task by task, and at last the hyperperiod.
-fn listed_time(tasks: &[Task], hyper: u32, group: u32) -> Option<u32>
-    ensures { λ r. ⌜ BySome r (Unit {0}) (λ t. t ≤ hyper) ⌝ }
+// The deadlines up to an end, task by task, and at last the end.
+pub fn listed_time(tasks: &[Task], end: u32, group: u32) -> Option<u32>
+    ensures place { λ r. ⌜ ((top : ℕ) → r ≡ nth (edf-times (charges top (now (tasks .entry))) end) group) ⌝ }
+    ensures exactly { λ _. ⌜ ((top t : ℕ) → List·Memᴰ t (edf-times (charges top (now (tasks .entry))) end) ↔ Deadline (charges top (now (tasks .entry))) end t) ⌝ }
+    ensures early { λ r. ⌜ BySome r (Unit {0}) (λ t. t ≤ end) ⌝ }
 {
     let mut left = group;
     'deadlines: for task in tasks {
-        let count = task.jobs(hyper);
+        let count = task.jobs(end);
         if left < count {
-            return task.due(left, hyper);
+            return task.due(left, end);
         }
         left -= count;
     }
-    if left == 0 { Some(hyper) } else { None }
+    if left == 0 { Some(end) } else { None }
 }
 
 // The cycles of all jobs that arrive and are due within a window.
@@ -97,6 +105,12 @@ fn due_cycles(tasks: &[Task], drive: &Drive, window: u32) -> u64
 }
 
 pub impl Policy for Edf as EdfPolicy {
+    ghost span = { λ _ ts. edf-span ts };
+
+    ghost full = { λ _ cs Z. Edf-full cs Z };
+
+    ghost groups = { λ _ cs. edf-groups cs };
+
     fn spans(&self, set: &TaskSet) -> bool {
         hyperperiod(set.tasks()).is_some()
     }

@@ -1,7 +1,10 @@
-ghost use Prim.Native.Nat.{_+_, _*_, _/_, _<_, _≤_};
+ghost use Prim.Native.Nat.{ℕ, _+_, _*_, _/_, _<_, _≤_};
 ghost use Rattle.demand.specs.Limits.{longest-period, most-charge, most-tasks};
 ghost use Rattle.demand.specs.Charges.{charge, charges};
-ghost use Rattle.demand.specs.Demand.{above, taken-cycles};
+ghost use Rattle.demand.specs.Demand.{above, taken-cycles, Fp-full};
+ghost use Rattle.demand.specs.Listings.{fp-groups, fp-times};
+ghost use Rattle.std.specs.Finite.{nth};
+ghost use mathlib.Core.Bool.{true};
 ghost use Rattle.processor.specs.Drives.{peak};
 ghost use mathlib.Core.Path.{_≡_};
 ghost use lib.ListN.{length};
@@ -42,7 +45,8 @@ impl Task {
 
 // The releases of the tasks above up to the deadline, task by task, and at last the deadline.
 fn listed_time(tasks: &[Task], task: &Task, index: u32) -> Option<u32>
-    ensures { λ r. ⌜ BySome r (Unit {0}) (λ t. t ≤ now (task .entry) .deadline) ⌝ }
+    ensures place { λ r. ⌜ ((top : ℕ) → r ≡ nth (fp-times (now (task .entry) .rank) (now (task .entry) .deadline) (charges top (now (tasks .entry)))) index) ⌝ }
+    ensures early { λ r. ⌜ BySome r (Unit {0}) (λ t. t ≤ now (task .entry) .deadline) ⌝ }
 {
     let mut left = index;
     'releases: for other in tasks {
@@ -71,6 +75,12 @@ fn taken_cycles(tasks: &[Task], task: &Task, drive: &Drive, window: u32) -> u64
 }
 
 pub impl Policy for Fp as FpPolicy {
+    ghost span = { λ _ _. true };
+
+    ghost full = { λ _ cs Z. Fp-full cs Z };
+
+    ghost groups = { λ _ cs. fp-groups cs };
+
     fn spans(&self, _set: &TaskSet) -> bool {
         true
     }

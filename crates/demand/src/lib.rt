@@ -1,4 +1,5 @@
 pub mod edf;
+pub mod figures;
 pub mod fp;
 pub mod job;
 pub mod policy;

@@ -1,6 +1,5 @@
 ghost use Prim.Native.Nat.{_≤_};
 ghost use Rattle.demand.specs.Limits.{last-rank, most-cycles, longest-fixed, longest-period};
-use processor::refusal::Refusal;
 
 // The highest rank.
 pub const LAST_RANK: u32 = 255;
@@ -41,33 +40,4 @@ pub struct Task {
     ghost often: { period ≤ longest-period },
     ghost due: { 1 ≤ deadline },
     ghost constrained: { deadline ≤ period },
-}
-
-impl Task {
-    // The task of these figures, where each is within its limits.
-    pub fn new(figures: Figures) -> Result<Task, Refusal> {
-        let Figures {
-            rank,
-            cycles,
-            fixed,
-            period,
-            deadline,
-        } = figures;
-        if rank < 1 || rank > LAST_RANK {
-            return Err(Refusal::TaskFigure);
-        }
-        if cycles < 1 || cycles > MOST_CYCLES || fixed > LONGEST_FIXED {
-            return Err(Refusal::TaskFigure);
-        }
-        if period > LONGEST_PERIOD || deadline < 1 || deadline > period {
-            return Err(Refusal::TaskFigure);
-        }
-        Ok(Task {
-            rank,
-            cycles,
-            fixed,
-            period,
-            deadline,
-        })
-    }
 }

@@ -1,7 +1,6 @@
 use Prim.Native.Nat.{_+_, _*_, _≤_}
 use mathlib.Core.Path.{_≡_, refl, sym, ap₂, _∙_}
 use native.Mathlib.Omega.{arith}
-
 use Rattle.processor.specs.Drives.{peak}
 use Rattle.demand.specs.Limits.{longest-span, most-charge}
 use Rattle.demand.specs.Charges.{charge}
@@ -20,9 +19,10 @@ pub jobs-again : need.jobs-again
 jobs-again c =
     let h = more c in
     let v : c .from .result * c .charge .result ≡ due-cycles (c .args .window) (charge (peak (c .args .drive .now)) (c .task-item .result)) =
-    ap₂ (λ a b. a * b) (c .from .ensures ∙ c .jobs-in-jobs .ensures .value) (c .charge .ensures .value) in
-    (omega (arith, c .jobs .inv .0),
-     ap₂ (λ a b. a + b) (c .jobs .inv .1) v ∙ sym (total-next (due-cycles (c .args .window)) (peak (c .args .drive .now)) (c .args .tasks .now) (c .jobs .task-index) (c .task-item .result) (omega arith) (c .task-item .is)))
+    ap₂ (λ a b. a * b) (c .from .ensures ∙ c .jobs-in-jobs .ensures .value) (c .charge .ensures .value) in (
+      omega (arith, c .jobs .inv .0),
+      ap₂ (λ a b. a + b) (c .jobs .inv .1) v ∙ sym (total-next (due-cycles (c .args .window)) (peak (c .args .drive .now)) (c .args .tasks .now) (c .jobs .task-index) (c .task-item .result) (omega arith) (c .task-item .is)),
+    )
 
 pub returns : need.returns
 unfolding demand

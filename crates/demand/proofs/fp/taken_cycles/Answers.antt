@@ -18,11 +18,12 @@ add-sum c = omega (arith, c .above .inv .0, c .taken-sum .ensures .bound)
 
 pub above-again : need.above-again
 above-again c =
-    let n = total-next (taken-cycles (c .args .task .now .rank) (c .args .window)) (peak (c .args .drive .now)) (c .args .tasks .now) (c .above .other-index) (c .other-item .result) (omega arith) (c .other-item .is) in
-    (omega (arith, c .above .inv .0, c .taken-sum .ensures .bound),
-     ap₂ (λ a b. a + b) (c .above .inv .1) (c .taken-sum .ensures .value)
-     ∙ add-assoc _ _ _
-     ∙ ap (λ v. charge (peak (c .args .drive .now)) (c .args .task .now) .cycles + v) (sym n))
+    let n = total-next (taken-cycles (c .args .task .now .rank) (c .args .window)) (peak (c .args .drive .now)) (c .args .tasks .now) (c .above .other-index) (c .other-item .result) (omega arith) (c .other-item .is) in (
+      omega (arith, c .above .inv .0, c .taken-sum .ensures .bound),
+      ap₂ (λ a b. a + b) (c .above .inv .1) (c .taken-sum .ensures .value)
+          ∙ add-assoc _ _ _
+          ∙ ap (λ v. charge (peak (c .args .drive .now)) (c .args .task .now) .cycles + v) (sym n),
+    )
 
 pub returns : need.returns
 unfolding above

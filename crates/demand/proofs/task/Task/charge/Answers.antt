@@ -1,7 +1,6 @@
 use Prim.Native.Nat.{_+_, _*_, _≤_}
 use mathlib.Core.Path.{ap₂, ap, _∙_}
 use native.Mathlib.Omega.{arith}
-
 use Rattle.processor.specs.Limits.{top-speed}
 use Rattle.processor.specs.Drives.{peak}
 use Rattle.demand.specs.Limits.{longest-fixed}
