@@ -21,6 +21,7 @@ pub struct Holdoff<P> {
 }
 
 impl<P> Holdoff<P> {
+    // A holdoff of at most the longest, or the platform back.
     pub fn new(delay: u32, below: P) -> Result<Holdoff<P>, Unlayered<P>>
         ensures { λ r. ⌜ Cases r (λ h. (delay ≤ longest-holdoff) × (h .delay ≡ delay) × (h .below ≡ below)) (λ e. (longest-holdoff < delay) × (e .refusal ≡ HoldoffLimit) × (e .below ≡ below)) ⌝ }
     {

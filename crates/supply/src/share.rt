@@ -23,6 +23,7 @@ pub struct Share<P> {
 }
 
 impl<P> Share<P> {
+    // A share of at least one part and at most all, or the platform back.
     pub fn new(num: u32, den: u32, below: P) -> Result<Share<P>, Unlayered<P>>
         ensures { λ r. ⌜ Cases r (λ s. Parts num den × (s .num ≡ num) × (s .den ≡ den) × (s .below ≡ below)) (λ e. (Parts num den → ⊥) × (e .refusal ≡ ShareNumbers) × (e .below ≡ below)) ⌝ }
     {

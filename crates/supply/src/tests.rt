@@ -45,8 +45,8 @@ const WINDOWS: [u32; 14] = [
     1_000_001,
 ];
 
-// The split with this number of a frame.
-fn split(frame: u32, up: u32, down: u32, number: u32) -> Result<Drive, Refusal> {
+// The two modes in turn, by the split of a frame with this number.
+fn turns(frame: u32, up: u32, down: u32, number: u32) -> Result<Drive, Refusal> {
     let splits = Splits::new(LOW, HIGH, up, down, frame).ok_or(Refusal::NoDrive)?;
     let pair = splits.pair(number).ok_or(Refusal::NoDrive)?;
     Ok(Drive::Pair(pair))
@@ -78,14 +78,14 @@ fn alike(drive: &Drive) -> Result<(), Fail> {
 #[test]
 fn platforms_agree() -> Result<(), Fail> {
     alike(&Drive::Fixed(HIGH))?;
-    alike(&split(9_600, 240, 160, 3_199)?)?;
-    alike(&split(9_600, 160, 240, 0)?)?;
-    alike(&split(20_000, 0, 0, 77)?)
+    alike(&turns(9_600, 240, 160, 3_199)?)?;
+    alike(&turns(9_600, 160, 240, 0)?)?;
+    alike(&turns(20_000, 0, 0, 77)?)
 }
 
 #[test]
 fn piles_supply() -> Result<(), Fail> {
-    let drive = split(9_600, 240, 160, 3_199)?;
+    let drive = turns(9_600, 240, 160, 3_199)?;
     check_eq(Sliding.supplied(&drive, 9_841), Ok(256_020))?;
     let pile = piled(Sliding)?;
     check_eq(pile.supplied(&drive, 480), Ok(0))?;
