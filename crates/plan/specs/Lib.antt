@@ -1,0 +1,2 @@
+pub mod Feasible
+pub mod Searches
