@@ -1,1 +1,4 @@
 pub mod Tested
+pub mod Improving
+pub mod Along
+pub mod Visiting

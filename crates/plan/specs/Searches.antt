@@ -1,5 +1,5 @@
 -- What a part of the search does to the best drive so far.
-use Prim.Native.Nat.{ℕ, _<_}
+use Prim.Native.Nat.{ℕ, _<_, _≤_}
 use mathlib.Core.Path.{_≡_}
 use mathlib.Core.Logic.{_⊎_}
 use Rattle.std.specs.Options.{Cases}
@@ -38,3 +38,7 @@ Split-in s e = (q : ℕ) × (p : Pair) × (e ≡ Turns p) × Within s q × Split
 -- the pairs of a frame and two mode numbers
 abbrev pub Pair-at : Processor → ℕ → ℕ → ℕ → Drive → Type 0
 Pair-at t frame low high e = (p : Pair) × (e ≡ Turns p) × On-frame t frame low high p
+
+-- the drives of longer frames than a bound, and all fixed drives
+abbrev pub Seen : Processor → ℕ → Drive → Type 0
+Seen t bound e = Below (Fixed-at t) 17 e ⊎ ((p : Pair) × (e ≡ Turns p) × Candidate t (Turns p) × (bound ≤ p .frame))

@@ -6,3 +6,4 @@ pub mod Pigeons
 pub mod Growth
 pub mod Longest
 pub mod Streams
+pub mod Same
