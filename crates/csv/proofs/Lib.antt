@@ -1,0 +1,5 @@
+pub mod Broken
+pub mod Cuts
+pub mod Fields
+pub mod Reading
+pub mod Stops
