@@ -1,4 +1,5 @@
 pub mod Broken
+pub mod Counting
 pub mod Cuts
 pub mod Fields
 pub mod Reading
