@@ -90,3 +90,11 @@ missing-broken F s m k x number i e l b h n =
 pub numbered : (F : List ℕ) (s m k x number : ℕ) (f : Found) → s ≡ m → x ≤ length F → Before F s k x → FieldAt F (min x (length F)) f → number ≡ k + 1 → Numbered F m number (f .part)
 numbered F s m k x number f e l b h n =
     subst (λ z. Numbered F z number (f .part)) e (record { others = k; from = x; field = f; counted = n; before = b; here = here-field F x f l h; is = refl })
+
+-- one field has a number
+pub numbered-once : (F : List ℕ) (s number : ℕ) (p q : Part) → Numbered F s number p → Numbered F s number q → p ≡ q
+numbered-once F s number p q h k =
+    let i : k .others ≡ h .others = omega (arith, h .counted, k .counted) in
+    let d : Before F s (h .others) (k .from) = subst (λ z. Before F s z (k .from)) i (k .before) in
+    let e : k .from ≡ h .from = before-once F s (h .others) (k .from) (h .from) d (h .before) in
+    sym (h .is) ∙ ap (λ z. z .part) (field-once F (h .from) (h .field) (k .field) (h .here) (subst (λ z. FieldAt F z (k .field)) e (k .here))) ∙ k .is

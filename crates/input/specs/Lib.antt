@@ -1,0 +1,4 @@
+pub mod Cells
+pub mod Headers
+pub mod Numbers
+pub mod TaskFiles
