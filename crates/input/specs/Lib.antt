@@ -1,4 +1,5 @@
 pub mod Cells
+pub mod Entries
 pub mod Headers
 pub mod Numbers
 pub mod TaskFiles

@@ -67,7 +67,7 @@ impl Line {
     }
 
     // Whether a field has this text.
-    fn reads(&self, file: &[u8], number: u32, name: &[u8]) -> bool
+    pub fn reads(&self, file: &[u8], number: u32, name: &[u8]) -> bool
         ensures { λ r. ⌜ When r (Cell (now (file .entry)) (now (self .entry) .«record») number (now (name .entry))) (Cell (now (file .entry)) (now (self .entry) .«record») number (now (name .entry)) → ⊥) ⌝ }
     {
         match self.text(file, number) {
