@@ -2,4 +2,5 @@ pub mod Cells
 pub mod Entries
 pub mod Headers
 pub mod Numbers
+pub mod ProcessorFiles
 pub mod TaskFiles
