@@ -1,3 +1,9 @@
+ghost use Prim.Native.Nat.{_≤_};
+ghost use mathlib.Core.Path.{_≡_};
+ghost use lib.ListN.{length};
+ghost use Rattle.std.specs.Holes.{between};
+ghost use Rattle.std.specs.Options.{Cases as BySome};
+
 // The bytes of a field in its file, without the quotes around them.
 #[derive(Clone, Copy, PartialEq, Eq, Debug)]
 pub struct Part {
@@ -24,7 +30,9 @@ pub struct Broken {
 
 impl Part {
     // The bytes of the part, or none where it does not lie within the file.
-    pub fn text<'a>(&self, file: &'a [u8]) -> Option<&'a [u8]> {
+    pub fn text<'a>(&self, file: &'a [u8]) -> Option<&'a [u8]>
+        ensures { λ r. ⌜ BySome r (now (self .entry) .start ≤ now (self .entry) .end → now (self .entry) .end ≤ length (now (file .entry)) → ⊥) (λ t. now t ≡ between (now (self .entry) .start) (now (self .entry) .end) (now (file .entry))) ⌝ }
+    {
         let start = self.start;
         let end = self.end;
         if start > end || end > file.len() {

@@ -1,3 +1,4 @@
+ghost use Rattle.input.specs.Entries.{KindIn, EmptyIn, EntryIn};
 use crate::fault::Fault;
 use crate::fault::Layer;
 use crate::line::Line;
@@ -19,39 +20,38 @@ enum Kind {
     Frame,
 }
 
-// The kind that a text names.
-fn kind_of(text: &[u8]) -> Option<Kind> {
-    match text {
-        b"mode" => Some(Kind::Mode),
-        b"switch" => Some(Kind::Switch),
-        b"frame" => Some(Kind::Frame),
-        _ => None,
-    }
-}
-
 // The kind of a record.
-fn kind_in(file: &[u8], line: &Line) -> Result<Kind, Fault> {
-    let named = match line.text(file, 1) {
-        Some(text) => kind_of(text),
-        None => None,
-    };
-    match named {
-        Some(kind) => Ok(kind),
-        None => Err(line.fault(Layer::Numbers, Refusal::UnknownKind, 1)),
+fn kind_in(file: &[u8], line: &Line) -> Result<Kind, Fault>
+    ensures { λ r. ⌜ KindIn (now (file .entry)) (now (line .entry)) r ⌝ }
+{
+    if line.reads(file, 1, b"mode") {
+        return Ok(Kind::Mode);
     }
+    if line.reads(file, 1, b"switch") {
+        return Ok(Kind::Switch);
+    }
+    if line.reads(file, 1, b"frame") {
+        return Ok(Kind::Frame);
+    }
+    Err(line.fault(Layer::Numbers, Refusal::UnknownKind, 1))
 }
 
 // A frame has nothing in its last two fields.
-fn leave_empty(file: &[u8], line: &Line, number: u32) -> Result<(), Fault> {
-    match line.text(file, number) {
-        Some([]) => Ok(()),
-        _ => Err(line.fault(Layer::Numbers, Refusal::FrameFieldFilled, number)),
+fn leave_empty(file: &[u8], line: &Line, number: u32) -> Result<(), Fault>
+    ensures { λ r. ⌜ EmptyIn (now (file .entry)) (now (line .entry)) number r ⌝ }
+{
+    if line.reads(file, number, b"") {
+        return Ok(());
     }
+    Err(line.fault(Layer::Numbers, Refusal::FrameFieldFilled, number))
 }
 
 // The entry of a record.
-pub fn entry_of(file: &[u8], line: &Line) -> Result<Entry, Fault> {
-    match kind_in(file, line)? {
+pub fn entry_of(file: &[u8], line: &Line) -> Result<Entry, Fault>
+    ensures { λ r. ⌜ EntryIn (now (file .entry)) (now (line .entry)) r ⌝ }
+{
+    let kind = kind_in(file, line)?;
+    match kind {
         Kind::Mode => {
             let number = line.number_in(file, 2)?;
             let speed = line.number_in(file, 3)?;

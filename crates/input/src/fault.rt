@@ -1,5 +1,5 @@
-ghost use Prim.Native.Nat.{ℕ};
 ghost use mathlib.Core.Path.{_≡_};
+ghost use Rattle.input.specs.Showing.{source-number};
 ghost use Rattle.input.specs.declared.fault.Unread.the-variants.{Faulty, Memory};
 use processor::refusal::Refusal;
 use std::alloc::AllocError;
@@ -23,7 +23,9 @@ pub enum Source {
 
 impl Source {
     // The number that is printed.
-    pub fn number(self) -> u32 {
+    pub fn number(self) -> u32
+        ensures { λ r. ⌜ r ≡ source-number self ⌝ }
+    {
         match self {
             Source::Processor => 1,
             Source::Tasks => 2,

@@ -1,12 +1,14 @@
-ghost use Prim.Native.Nat.{_+_, _*_, _^_, _<_, _≤_};
-ghost use mathlib.Core.Path.{_≡_};
-ghost use lib.ListN.{length};
+ghost use Prim.Native.Nat.{ℕ};
+ghost use Rattle.input.specs.Numbers.{Spells};
+ghost use Rattle.std.specs.Options.{Cases as BySome};
 
 // The most digits of a number.
 const MOST_DIGITS: usize = 10;
 
 // The number that a text of one to ten decimal digits spells, where it fits.
-pub fn figure(text: &[u8]) -> Option<u32> {
+pub fn figure(text: &[u8]) -> Option<u32>
+    ensures { λ r. ⌜ BySome r ((v : ℕ) → Spells (now (text .entry)) v → ⊥) (λ v. Spells (now (text .entry)) v) ⌝ }
+{
     if text.is_empty() || text.len() > MOST_DIGITS {
         return None;
     }

@@ -1,3 +1,6 @@
+ghost use mathlib.Core.Path.{_≡_};
+ghost use Rattle.input.specs.ProcessorFiles.{field-refused, TableFault, EntriesRead, Blamed};
+ghost use Rattle.std.specs.Results.{Cases as ByOk};
 use crate::entry::Entry;
 use crate::entry::entry_of;
 use crate::fault::Fault;
@@ -14,7 +17,9 @@ use processor::table::Processor;
 use std::alloc::Global;
 
 // The field of an entry that the table refuses.
-fn refused_field(cause: Refusal) -> u32 {
+fn refused_field(cause: Refusal) -> u32
+    ensures { λ r. ⌜ r ≡ field-refused cause ⌝ }
+{
     match cause {
         Refusal::ModeNumber | Refusal::ModeRepeated | Refusal::FromUnlisted => 2,
         Refusal::FrameLimit | Refusal::FrameRepeated | Refusal::NinthFrame => 2,
@@ -26,7 +31,9 @@ fn refused_field(cause: Refusal) -> u32 {
 }
 
 // The table's refusal of a record.
-fn refused(line: &Line, cause: Refusal) -> Unread {
+fn refused(line: &Line, cause: Refusal) -> Unread
+    ensures { λ r. ⌜ TableFault (now (line .entry)) r ⌝ }
+{
     match cause {
         Refusal::Memory => Unread::Memory,
         _ => Unread::Faulty(line.fault(Layer::Table, cause, refused_field(cause))),
@@ -34,7 +41,9 @@ fn refused(line: &Line, cause: Refusal) -> Unread {
 }
 
 // Lists the entry of a record in the table.
-fn list(table: &mut Processor, line: &Line, entry: Entry) -> Result<(), Unread> {
+fn list(table: &mut Processor, line: &Line, entry: Entry) -> Result<(), Unread>
+    ensures { λ r. ⌜ ByOk r (λ _. Unit {0}) (λ u. TableFault (now (line .entry)) u) ⌝ }
+{
     let listed = match entry {
         Entry::Mode {
             number,
@@ -51,7 +60,9 @@ fn list(table: &mut Processor, line: &Line, entry: Entry) -> Result<(), Unread> 
 }
 
 // Reads the processor's file: its table, or what is wrong with the first record that has a fault.
-pub fn read_processor(heap: Global, file: &[u8]) -> Result<Processor, Unread> {
+pub fn read_processor(heap: Global, file: &[u8]) -> Result<Processor, Unread>
+    ensures { λ r. ⌜ ByOk r (λ _. EntriesRead (now (file .entry))) (λ u. Blamed (now (file .entry)) u) ⌝ }
+{
     let mut at = read_header(file, Source::Processor)?;
     let mut table = Processor::new(heap)?;
     let mut number = 0;
