@@ -5,3 +5,6 @@ pub mod job;
 pub mod policy;
 pub mod set;
 pub mod task;
+
+#[cfg(test)]
+mod tests;

@@ -86,7 +86,8 @@ impl TaskSet {
     pub fn drop_newest(&mut self)
         ensures { λ _. ⌜ vec-items (now (self .exit) .tasks) ≡ take (length (vec-items (now (self .entry) .tasks)) - 1) (vec-items (now (self .entry) .tasks)) ⌝ }
     {
-        let _ = self.tasks.pop();
+        let kept = self.tasks.len().saturating_sub(1);
+        self.tasks.truncate(kept);
     }
 
     // Takes the task at a place out. The others keep their order.
