@@ -64,7 +64,7 @@ impl TaskSet {
     pub fn has_rank(&self, rank: u32) -> bool
         ensures { λ r. ⌜ r ≡ has-rank rank (vec-items (now (self .entry) .tasks)) ⌝ }
     {
-        ranked(self.tasks.as_slice(), rank)
+        ranked(self.tasks(), rank)
     }
 
     // Takes one task more.
