@@ -28,8 +28,7 @@ fn taken(rank: u32, cycles: u32, fixed: u32, period: u32, deadline: u32) -> bool
         fixed,
         period,
         deadline,
-    })
-    .is_ok()
+    }).is_ok()
 }
 
 #[test]
