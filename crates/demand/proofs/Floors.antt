@@ -4,7 +4,7 @@ use mathlib.Core.Path.{_≡_, refl, sym, _∙_, ap}
 use mathlib.Core.Bool.{cond}
 use mathlib.Core.Logic.{_⊎_, inl, inr}
 use native.Mathlib.Omega.{arith}
-use native.Mathlib.Nat.{mul-le-mul-right, div-eq-of-lt, add-div-right, div-add-mod', mod-lt, div-lt-iff-lt-mul}
+use native.Mathlib.Nat.{div-eq-of-lt, add-div-right, div-add-mod', mod-lt}
 use lib.Dec.{ltb}
 use Rattle.std.proofs.shelf.Tests.{cases-lt, cond-below, cond-above}
 use Rattle.std.proofs.shelf.Bits.{div-mul-add}
@@ -33,15 +33,7 @@ floor-step x p hp = way (suc x % p) refl
         let s : x ≡ suc x / p * p + r = omega (arith, split, e) in
         inl (sym (ap (λ y. y / p) s ∙ div-mul-add (suc x / p) p r (omega arith)))
 
--- the least k with t ≤ k * p
-pub ceil-covers : (t p : ℕ) → 1 ≤ p → t ≤ (t + p - 1) / p * p
-ceil-covers t p hp = omega (arith, div-add-mod' (t + p - 1) p, mod-lt (t + p - 1) hp)
-
-pub ceil-least : (t p k : ℕ) → 1 ≤ p → t ≤ k * p → (t + p - 1) / p ≤ k
-ceil-least t p k hp h =
-    let b : t + p - 1 < suc k * p = omega arith in
-    let c : (t + p - 1) / p < suc k = div-lt-iff-lt-mul hp .1 b in omega arith
-
+-- a ceiling grows only after a multiple
 pub ceil-step : (t p : ℕ) → 1 ≤ p → ((suc t + p - 1) / p ≡ (t + p - 1) / p) ⊎ ((k : ℕ) × (t ≡ k * p))
 ceil-step t p hp = way (floor-step (t + p - 1) p hp)
   where
@@ -55,10 +47,3 @@ ceil-step t p hp = way (floor-step (t + p - 1) p hp)
         cut : (q : ℕ) → suc (t + p - 1) ≡ q * p → t ≡ (q - 1) * p
         cut zero g = absurd (omega arith)
         cut (suc q) g = let r : suc q - 1 ≡ q = omega arith in rw r (omega arith)
-
-pub ceil-above : (t p q : ℕ) → 1 ≤ p → q * p < t → q < (t + p - 1) / p
-ceil-above t p q hp h = way (cases-lt q ((t + p - 1) / p))
-  where
-    way : (q < (t + p - 1) / p) ⊎ ((t + p - 1) / p ≤ q) → q < (t + p - 1) / p
-    way (inl g) = g
-    way (inr g) = absurd (omega (arith, ceil-covers t p hp, mul-le-mul-right p g))

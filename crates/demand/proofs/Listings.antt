@@ -1,19 +1,19 @@
 -- Which times the policies list, and that the test at them decides.
 use Prim.Native.Nat.{ℕ, zero, suc, _+_, _*_, _/_, _≤_, _<_}
-use mathlib.Core.Path.{_≡_, refl, sym, ap, subst, _∙_}
+use mathlib.Core.Path.{_≡_, refl, sym, subst}
 use mathlib.Core.Bool.{Bool, true, false, cond}
 use mathlib.Core.Logic.{_⊎_, inl, inr, _↔_}
 use mathlib.Core.List.{List, [], _∷_, _++_, map, List·Memᴰ, List·Memᴰ·head, List·Memᴰ·tail, List·Memᴰ·not-nil, List·Memᴰ·cases-cons, List·Memᴰ·append-cases, List·Memᴰ·eq-of-singleton, Memᴰ·append-left, Memᴰ·append-right}
 use native.Mathlib.Omega.{arith}
 use native.Mathlib.Nat.{mul-le-mul-right, div-mul-le-self, le-div-iff-mul-le}
 use lib.Dec.{ltb}
-use borrow.Author.Tests.{lt-ltb, ltb-true}
+use borrow.Author.Tests.{lt-ltb}
 use Rattle.supply.specs.Laws.{Lawful}
 use Rattle.demand.specs.Charges.{Charged}
 use Rattle.demand.specs.Demand.{demand, above, Edf-full, Fp-full}
 use Rattle.demand.specs.Tests.{Passes}
 use Rattle.demand.specs.Listings.{dues, edf-times, edf-group, Deadline, due, end, turns, fp-times, fp-group, fp-groups}
-use Rattle.demand.proofs.Points.{Fit, All-fit, Shared, Edf-points, Release, at, last, jobs-of, first, rest}
+use Rattle.demand.proofs.Points.{All-fit, Shared, Release, at, last, jobs-of, first, rest}
 use Rattle.demand.proofs.Deadlines.{edf-exact, jobs-bound, bound-jobs}
 use Rattle.demand.proofs.Priorities.{fp-exact}
 use Rattle.demand.proofs.Passes.{Held, passes-each, each-passes, held-at, at-held, member-listed, listed-member}

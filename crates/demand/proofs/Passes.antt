@@ -67,9 +67,3 @@ module _ (f : ℕ → ℕ) (n : ℕ) where
   listed-member p i =
       let r = Memᴰ·of-map f (counting 0 n) i in
       (r .0, omega (arith, counting-member n 0 (r .0) (r .1) .1), sym (r .2))
-
--- an element at a place is a member
-pub member-at : {X : Type 0} (xs : List X) (i : ℕ) (d : X) → i < length xs → List·Memᴰ (getD xs i d) xs
-member-at [] i d h = absurd (omega arith)
-member-at (x ∷ xs) zero d h = List·Memᴰ·head refl
-member-at (x ∷ xs) (suc i) d h = List·Memᴰ·tail (member-at xs i d (omega arith))

@@ -1,10 +1,8 @@
 -- What stands at a place of a listing, and how the code comes to it.
 use Prim.Native.Nat.{ℕ, zero, suc, _+_, _*_, _-_, _/_, _≤_, _<_}
-use mathlib.Core.Path.{_≡_, refl, sym, ap, subst, _∙_}
-use mathlib.Core.Bool.{Bool, true, false, cond}
+use mathlib.Core.Path.{_≡_, refl, sym, ap, _∙_}
 use mathlib.Core.List.{List, [], _∷_, _++_, map}
 use native.Mathlib.Omega.{arith}
-use lib.Dec.{ltb}
 use lib.ListN.{length, getD, drop}
 use borrow.Author.Tests.{lt-ltb, le-ltb}
 use Rattle.std.specs.Iters.{counting}
@@ -18,7 +16,7 @@ use Rattle.std.proofs.shelf.Counted.{length-map-counting, getD-map-counting}
 use Rattle.demand.specs.declared.task.Task.{Task}
 use Rattle.demand.specs.Charges.{Charged, charge, charges}
 use Rattle.demand.specs.Demand.{jobs}
-use Rattle.demand.specs.Listings.{dues, edf-times, turns, fp-times}
+use Rattle.demand.specs.Listings.{edf-times, fp-times}
 
 -- ---- any list
 

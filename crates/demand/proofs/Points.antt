@@ -1,7 +1,7 @@
 -- What every task keeps, and the times at which a policy's condition is tested.
 use Prim.Native.Nat.{ℕ, _+_, _*_, _≤_, _<_}
-use mathlib.Core.Path.{_≡_, refl, sym, subst}
-use mathlib.Core.List.{List, _∷_, map, List·Memᴰ, List·Memᴰ·head, List·Memᴰ·tail, Memᴰ·of-map}
+use mathlib.Core.Path.{_≡_, refl, subst}
+use mathlib.Core.List.{List, _∷_, List·Memᴰ, List·Memᴰ·head, List·Memᴰ·tail, Memᴰ·of-map}
 use native.Mathlib.Omega.{arith}
 use Rattle.demand.specs.declared.task.Task.{Task}
 use Rattle.demand.specs.Charges.{Charged, charge, charges}

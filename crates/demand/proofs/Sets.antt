@@ -1,23 +1,24 @@
 -- Sets of tasks: whose ranks differ, and what an edit leaves of that.
-use Prim.Native.Nat.{ℕ, zero, suc, _+_, _-_, _<_, _≤_, min}
+use Prim.Native.Nat.{ℕ, zero, suc, _+_, _*_, _<_, _≤_}
 use mathlib.Core.Path.{_≡_, refl, sym, ap, subst, _∙_}
 use mathlib.Core.Bool.{Bool, true, false, cond}
-use mathlib.Core.Logic.{_⊎_, inl, inr, ⊎-elim}
+use mathlib.Core.Logic.{_⊎_, inl, inr}
 use mathlib.Core.List.{List, [], _∷_, _++_, map}
 use native.Mathlib.Omega.{arith}
 use lib.Dec.{eqb}
-use lib.ListN.{length, getD, take, drop, set, length-map, length-take, length-append}
+use lib.ListN.{length, getD, take, drop, set, length-map, length-take}
 use lib.Seq.{getD-take}
-use borrow.Author.Tests.{eq-eqb, ne-eqb, eqb-true}
+use borrow.Author.Tests.{eq-eqb, ne-eqb}
 use Rattle.std.specs.Of.Vec.{vec-items}
 use Rattle.std.specs.shelf.Lists.{removed}
-use Rattle.std.proofs.shelf.Tests.{cases-lt, cases-eq, cases-bool}
-use Rattle.std.proofs.shelf.Lists.{take-map, drop-map, map-append, getD-append-left, getD-push, length-push, at-drop-more, getD-map, map-push, getD-past}
+use Rattle.std.proofs.shelf.Tests.{cases-lt}
+use Rattle.std.proofs.shelf.Lists.{take-map, getD-append-left, getD-push, length-push, map-push}
 use Rattle.std.proofs.shelf.Edits.{length-removed, getD-removed-below, getD-removed-above}
 use Rattle.demand.specs.declared.task.Task.{Task}
 use Rattle.demand.specs.declared.task.Figures.{Figures}
 use Rattle.demand.specs.declared.set.TaskSet.{TaskSet}
-use Rattle.demand.specs.Figures.{figures-of, with-work, no-figures}
+use Rattle.demand.specs.Figures.{figures-of, with-work, no-figures, times-of}
+use Rattle.demand.specs.Charges.{charges}
 use Rattle.demand.proofs.Fewer.{map-removed}
 use Rattle.demand.specs.Ranks.{Distinct, ranks, has-rank, Set}
 
@@ -89,13 +90,6 @@ push-apart ts x d e = subst Distinct (sym (map-push rank-of ts x)) (distinct-pus
 
 -- ---- a row changed
 
-pub ranks-figures : (ts us : List Task) → map figures-of ts ≡ map figures-of us → ranks ts ≡ ranks us
-ranks-figures ts us e = sym (through ts) ∙ ap (λ fs. map (λ f. f .rank) fs) e ∙ through us
-  where
-    through : (vs : List Task) → map (λ (f : Figures). f .rank) (map figures-of vs) ≡ ranks vs
-    through [] = refl
-    through (v ∷ vs) = ap (λ ns. v .rank ∷ ns) (through vs)
-
 pub figures-set : (ts : List Task) (i : ℕ) (x y : Task) (n m : ℕ) → i < length ts → x ≡ getD ts i x → figures-of y ≡ with-work n m (figures-of x)
     → map figures-of (set ts i y) ≡ set (map figures-of ts) i (with-work n m (getD (map figures-of ts) i no-figures))
 figures-set [] i x y n m h e f = absurd (omega arith)
@@ -131,3 +125,34 @@ ranked-next n (t ∷ ts) (suc i) x h e g = let s : suc i + 1 ≡ suc (i + 1) = o
 
 pub set-is : (s : TaskSet) → Set (vec-items (s .tasks))
 set-is s = let l = s .tasks .ok .0 in record { few = omega (arith, s .few, l); apart = s .apart }
+
+-- ---- what reads only the figures
+
+pub by-figures : {X : Type 0} (f : Figures → X) (ts us : List Task) → map figures-of ts ≡ map figures-of us
+    → map (λ t. f (figures-of t)) ts ≡ map (λ t. f (figures-of t)) us
+by-figures f ts us e = sym (through ts) ∙ ap (map f) e ∙ through us
+  where
+    through : (vs : List Task) → map f (map figures-of vs) ≡ map (λ t. f (figures-of t)) vs
+    through [] = refl
+    through (v ∷ vs) = ap (λ xs. f (figures-of v) ∷ xs) (through vs)
+
+pub charges-figures : (top : ℕ) (ts us : List Task) → map figures-of ts ≡ map figures-of us → charges top ts ≡ charges top us
+charges-figures top ts us e =
+    by-figures (λ f. record { rank = f .rank; cycles = f .cycles + f .fixed * top; period = f .period; deadline = f .deadline }) ts us e
+
+abbrev times : Figures → ℕ × ℕ × ℕ
+times f = (f .rank, f .period, f .deadline)
+
+-- other work leaves ranks, periods and deadlines
+pub revised-times : (ts us : List Task) (i n m : ℕ) → map figures-of us ≡ set (map figures-of ts) i (with-work n m (getD (map figures-of ts) i no-figures))
+    → map times-of us ≡ map times-of ts
+revised-times ts us i n m e = sym (through us) ∙ ap (map times) e ∙ same (map figures-of ts) i ∙ through ts
+  where
+    through : (vs : List Task) → map times (map figures-of vs) ≡ map times-of vs
+    through [] = refl
+    through (v ∷ vs) = ap (λ xs. times-of v ∷ xs) (through vs)
+
+    same : (fs : List Figures) (k : ℕ) → map times (set fs k (with-work n m (getD fs k no-figures))) ≡ map times fs
+    same [] k = refl
+    same (f ∷ fs) zero = refl
+    same (f ∷ fs) (suc k) = ap (λ xs. times f ∷ xs) (same fs k)

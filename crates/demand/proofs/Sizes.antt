@@ -1,15 +1,12 @@
 -- How many groups and points are listed, and how late they are.
 use Prim.Native.Nat.{ℕ, zero, suc, _+_, _*_, _/_, _≤_, _<_}
-use mathlib.Core.Path.{_≡_, refl, sym, ap, subst, _∙_}
+use mathlib.Core.Path.{_≡_, refl, subst}
 use mathlib.Core.Bool.{Bool, true, false, cond}
-use mathlib.Core.Logic.{⊎-elim}
 use mathlib.Core.List.{List, [], _∷_, _++_, map, List·Memᴰ, List·Memᴰ·head, List·Memᴰ·tail, Memᴰ·of-map}
 use native.Mathlib.Omega.{arith}
 use native.Mathlib.Nat.{div-le-self}
 use lib.Dec.{ltb}
 use lib.ListN.{length, getD, length-map, length-append}
-use Rattle.std.proofs.shelf.Tests.{cases-lt}
-use Rattle.std.proofs.shelf.Lists.{getD-past, getD-map}
 use Rattle.std.proofs.shelf.Counted.{length-map-counting}
 use Rattle.demand.specs.declared.task.Task.{Task}
 use Rattle.demand.specs.Limits.{longest-period}
@@ -18,7 +15,6 @@ use Rattle.demand.specs.Demand.{jobs, above}
 use Rattle.demand.specs.Listings.{dues, edf-times, turns, fp-times, fp-group}
 use Rattle.demand.proofs.Counts.{jobs-le}
 use Rattle.demand.proofs.Points.{All-fit, first, rest}
-use Rattle.demand.proofs.Passes.{member-at}
 
 -- what holds of the group of each thing holds of each group
 module _ {X : Type 0} (P : List (ℕ × ℕ) → Type 0) (g : X → List (ℕ × ℕ)) where

@@ -1,21 +1,20 @@
 -- The hyperperiod of tasks, charged or not, and the groups within the span.
-use Prim.Native.Nat.{ℕ, zero, suc, _+_, _*_, _≤_, _<_}
+use Prim.Native.Nat.{ℕ, zero, suc, _+_, _≤_, _<_}
 use mathlib.Core.Path.{_≡_, refl, sym, ap, subst, _∙_}
-use mathlib.Core.Bool.{true, false, cond}
+use mathlib.Core.Bool.{true, false}
 use mathlib.Core.Logic.{_⊎_, inl, inr}
 use mathlib.Core.List.{List, [], _∷_, _++_, map, List·Memᴰ, List·Memᴰ·head, List·Memᴰ·tail, List·Memᴰ·not-nil, Memᴰ·map, Memᴰ·of-map}
 use native.Mathlib.Omega.{arith}
 use lib.Dec.{leb}
 use lib.ListN.{length, getD, take}
 use borrow.Author.Tests.{leb-true, le-leb, lt-leb}
-use Rattle.std.specs.declared.option.Option.{Option}
 use Rattle.std.specs.declared.option.Option.the-variants.{Some, None}
 use Rattle.std.proofs.shelf.Tests.{cases-lt}
 use Rattle.std.proofs.shelf.Lists.{map-more, take-map, take-all}
 use Rattle.demand.specs.declared.task.Task.{Task}
 use Rattle.demand.specs.Limits.{longest-span}
 use Rattle.demand.specs.Figures.{times-of}
-use Rattle.demand.specs.Charges.{Charged, charge, charges}
+use Rattle.demand.specs.Charges.{Charged, charges}
 use Rattle.demand.specs.Hyper.{lcm, hyper, periods, edf-span, within-span}
 use Rattle.demand.specs.Listings.{edf-times, edf-group, edf-groups, hyper-of}
 use Rattle.demand.proofs.Points.{Shared, charges-fit}

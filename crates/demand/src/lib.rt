@@ -5,3 +5,5 @@ pub mod job;
 pub mod policy;
 pub mod set;
 pub mod task;
+#[cfg(test)]
+mod tests;

@@ -2,11 +2,10 @@ ghost use Prim.Native.Nat.{_+_, _-_, _<_, _≤_};
 ghost use mathlib.Core.Bool.{true, cond};
 ghost use mathlib.Core.List.{[], _∷_, _++_, map};
 ghost use mathlib.Core.Path.{_≡_};
-ghost use lib.Dec.{leb, ltb};
+ghost use lib.Dec.{ltb};
 ghost use lib.ListN.{length, getD, take, set};
 ghost use Rattle.std.specs.Results.{isOk, Cases as ByOk};
 ghost use Rattle.std.specs.Options.{isSome, Cases as BySome};
-ghost use Rattle.std.specs.Orderings.{Decides};
 ghost use Rattle.std.specs.Vec.{made};
 ghost use Rattle.std.specs.Of.Vec.{vec-len, vec-items, vec-cap};
 ghost use Rattle.std.specs.shelf.Lists.{removed};
@@ -14,7 +13,7 @@ ghost use Rattle.std.specs.declared.result.Result.the-variants.{Ok, Err};
 ghost use Rattle.processor.specs.declared.refusal.Refusal.the-variants.{TaskFigure, RankTaken, PlanFull};
 ghost use Rattle.demand.specs.Limits.{most-tasks};
 ghost use Rattle.demand.specs.Figures.{Work, figures-of, with-work, no-figures};
-ghost use Rattle.demand.specs.Ranks.{Distinct, ranks, has-rank, Set};
+ghost use Rattle.demand.specs.Ranks.{Distinct, ranks, has-rank};
 use crate::task::Task;
 use processor::refusal::Refusal;
 use std::alloc::AllocError;
@@ -64,13 +63,14 @@ impl TaskSet {
     pub fn has_rank(&self, rank: u32) -> bool
         ensures { λ r. ⌜ r ≡ has-rank rank (vec-items (now (self .entry) .tasks)) ⌝ }
     {
-        ranked(self.tasks.as_slice(), rank)
+        ranked(self.tasks(), rank)
     }
 
     // Takes one task more.
     pub fn add(&mut self, task: Task) -> Result<(), Refusal>
         ensures answer { λ r. ⌜ r ≡ cond (has-rank (task .rank) (vec-items (now (self .entry) .tasks))) (Err RankTaken) (cond (ltb (length (vec-items (now (self .entry) .tasks))) most-tasks) (Ok tt) (Err PlanFull)) ⌝ }
         ensures items { λ r. ⌜ vec-items (now (self .exit) .tasks) ≡ cond (isOk r) (vec-items (now (self .entry) .tasks) ++ task ∷ []) (vec-items (now (self .entry) .tasks)) ⌝ }
+        ensures len { λ r. ⌜ vec-len (now (self .exit) .tasks) ≡ cond (isOk r) (vec-len (now (self .entry) .tasks) + 1) (vec-len (now (self .entry) .tasks)) ⌝ }
     {
         if self.has_rank(task.rank) {
             return Err(Refusal::RankTaken);
@@ -86,7 +86,8 @@ impl TaskSet {
     pub fn drop_newest(&mut self)
         ensures { λ _. ⌜ vec-items (now (self .exit) .tasks) ≡ take (length (vec-items (now (self .entry) .tasks)) - 1) (vec-items (now (self .entry) .tasks)) ⌝ }
     {
-        let _ = self.tasks.pop();
+        let kept = self.tasks.len().saturating_sub(1);
+        self.tasks.truncate(kept);
     }
 
     // Takes the task at a place out. The others keep their order.

@@ -1,4 +1,3 @@
-use Prim.Native.Nat.{zero, suc}
 use mathlib.Core.Path.{_≡_, sym, ap, _∙_}
 use native.Mathlib.Omega.{arith}
 use Rattle.demand.specs.Hyper.{gcd}

@@ -1,10 +1,9 @@
-use Prim.Native.Nat.{_+_, _<_, _≤_}
+use Prim.Native.Nat.{_+_}
 use mathlib.Core.Path.{_≡_, refl, sym, ap, _∙_}
 use native.Mathlib.Omega.{arith}
 use lib.ListN.{take}
-use Rattle.std.specs.declared.option.Option.the-variants.{Some, None}
-use Rattle.demand.specs.Limits.{longest-span}
-use Rattle.demand.specs.Hyper.{lcm, hyper, periods, within-span}
+use Rattle.std.specs.declared.option.Option.the-variants.{Some}
+use Rattle.demand.specs.Hyper.{lcm, hyper, periods}
 use Rattle.demand.proofs.Hyper.{hyper-positive, hyper-is-least}
 use Rattle.demand.proofs.Spans.{periods-positive, within-some, within-none, some-within, none-within, hyper-next, hyper-front, hyper-all}
 use Rattle.demand.proofs.edf.hyperperiod.Needs as need

@@ -1,9 +1,8 @@
-use Prim.Native.Nat.{_+_, _*_, _≤_}
-use mathlib.Core.Path.{_≡_, sym, ap, ap₂, _∙_}
+use Prim.Native.Nat.{_+_}
+use mathlib.Core.Path.{sym, ap, ap₂, _∙_}
 use native.Mathlib.Omega.{arith}
 use native.Mathlib.Nat.{add-assoc}
 use Rattle.processor.specs.Drives.{peak}
-use Rattle.demand.specs.Limits.{longest-period, most-charge}
 use Rattle.demand.specs.Charges.{charge}
 use Rattle.demand.specs.Demand.{total, above, taken-cycles}
 use Rattle.demand.proofs.Counts.{total-next, total-all}

@@ -1,7 +1,7 @@
-use Prim.Native.Nat.{ℕ, _*_, _+_, _<_, _≤_}
-use mathlib.Core.Path.{_≡_, refl, sym, ap, subst, _∙_}
+use Prim.Native.Nat.{ℕ, _*_, _<_, _≤_}
+use mathlib.Core.Path.{_≡_, refl, sym, ap, subst}
 use mathlib.Core.Logic.{_↔_}
-use mathlib.Core.List.{List, [], map, List·Memᴰ}
+use mathlib.Core.List.{[], List·Memᴰ}
 use native.Mathlib.Omega.{arith}
 use native.Mathlib.Nat.{mul-le-mul}
 use lib.Dec.{leb}
@@ -10,11 +10,11 @@ use borrow.Author.Tests.{leb-true, le-leb}
 use Rattle.std.specs.shelf.Lists.{removed}
 use Rattle.supply.specs.Laws.{longest-window}
 use Rattle.demand.specs.Limits.{most-tasks, longest-span}
-use Rattle.demand.specs.Charges.{Charged, charge, charges}
-use Rattle.demand.specs.Demand.{demand, Edf-full}
+use Rattle.demand.specs.Charges.{charge, charges}
+use Rattle.demand.specs.Demand.{Edf-full}
 use Rattle.demand.specs.Hyper.{hyper, periods}
 use Rattle.demand.specs.Tests.{Passes, point}
-use Rattle.demand.specs.Listings.{edf-times, edf-group, edf-groups, hyper-of}
+use Rattle.demand.specs.Listings.{edf-times, edf-group, hyper-of}
 use Rattle.demand.proofs.Points.{charges-fit}
 use Rattle.demand.proofs.Fewer.{map-removed, member-removed, edf-removed, edf-empty}
 use Rattle.demand.proofs.Hyper.{hyper-part}

@@ -1,10 +1,9 @@
-use Prim.Native.Nat.{ℕ, _*_, _+_, _<_, _≤_}
-use mathlib.Core.Path.{_≡_, sym, subst}
-use mathlib.Core.List.{List, map, List·Memᴰ}
+use Prim.Native.Nat.{_*_, _+_, _<_, _≤_}
+use mathlib.Core.Path.{sym, subst}
+use mathlib.Core.List.{List·Memᴰ}
 use native.Mathlib.Omega.{arith}
 use native.Mathlib.Nat.{mul-le-mul}
 use lib.ListN.{length, length-map}
-use Rattle.std.specs.shelf.Lists.{removed}
 use Rattle.supply.specs.Laws.{longest-window}
 use Rattle.demand.specs.Limits.{most-tasks, longest-period}
 use Rattle.demand.specs.Charges.{Charged, charge, charges}

@@ -1,12 +1,11 @@
-use Prim.Native.Nat.{ℕ, _≤_, _<_}
-use mathlib.Core.Path.{_≡_, refl, sym, ap, subst}
+use Prim.Native.Nat.{_≤_, _<_}
+use mathlib.Core.Path.{refl, sym, ap, subst}
 use mathlib.Core.List.{map}
 use native.Mathlib.Omega.{arith}
 use lib.ListN.{length, getD, set, length-map}
 use borrow.Author.Tests.{lt-ltb, le-ltb}
-use Rattle.std.specs.Of.Vec.{vec-items, vec-len, vec-cap}
-use Rattle.demand.specs.Limits.{most-tasks}
-use Rattle.demand.specs.Ranks.{Distinct, ranks}
+use Rattle.std.specs.Of.Vec.{vec-items}
+use Rattle.demand.specs.Ranks.{Distinct}
 use Rattle.demand.specs.Figures.{figures-of, with-work, no-figures}
 use Rattle.demand.proofs.Sets.{figures-set, ranks-set, set-beyond}
 use Rattle.demand.proofs.set.TaskSet.revise.Needs as need

@@ -1,5 +1,5 @@
 use Prim.Native.Nat.{_+_, _*_, _≤_}
-use mathlib.Core.Path.{ap₂, ap, _∙_}
+use mathlib.Core.Path.{ap₂, _∙_}
 use native.Mathlib.Omega.{arith}
 use Rattle.processor.specs.Limits.{top-speed}
 use Rattle.processor.specs.Drives.{peak}
