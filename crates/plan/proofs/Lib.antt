@@ -2,3 +2,4 @@ pub mod Tested
 pub mod Improving
 pub mod Along
 pub mod Visiting
+pub mod Admitted

@@ -1,2 +1,3 @@
 pub mod Feasible
 pub mod Searches
+pub mod Admitting

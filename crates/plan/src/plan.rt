@@ -1,3 +1,10 @@
+ghost use Prim.Native.Nat.{_+_, _≤_};
+ghost use mathlib.Core.Path.{_≡_};
+ghost use mathlib.Core.List.{[], _∷_, _++_};
+ghost use Rattle.std.specs.Of.Vec.{vec-items};
+ghost use Rattle.std.specs.Results.{Cases};
+ghost use Rattle.plan.specs.Admitting.{last-ticket, Sound, Admits, Holds-after, Settles};
+ghost use Rattle.plan.specs.Feasible.{Feasible};
 use crate::search::cheapest;
 use crate::table::TaskTable;
 use demand::policy::Policy;
@@ -20,6 +27,7 @@ pub struct Plan<P: Platform, Q: Policy> {
     table: TaskTable,
     given: u32,
     drive: Drive,
+    ghost counted: { given ≤ last-ticket },
 }
 
 impl<P: Platform, Q: Policy> Plan<P, Q> {
@@ -30,7 +38,9 @@ impl<P: Platform, Q: Policy> Plan<P, Q> {
         policy: Q,
         table: TaskTable,
         drive: Drive,
-    ) -> Plan<P, Q> {
+    ) -> Plan<P, Q>
+        ensures { λ r. ⌜ (r .processor ≡ processor) × (r .platform ≡ platform) × (r .policy ≡ policy) × (r .table ≡ table) × (r .given ≡ 0) × (r .drive ≡ drive) ⌝ }
+    {
         Plan {
             processor,
             platform,
@@ -42,10 +52,18 @@ impl<P: Platform, Q: Policy> Plan<P, Q> {
     }
 
     // Takes a task in and answers its ticket.
-    pub fn admit(&mut self, figures: Figures) -> Result<u32, Refusal> {
+    pub fn admit(&mut self, figures: Figures) -> Result<u32, Refusal>
+        ensures answer { λ r. ⌜ Admits (now (self .entry) .processor) (Q·Policy .span (now (self .entry) .policy)) (Feasible (P·Platform .supply (now (self .entry) .platform)) (Q·Policy .full (now (self .entry) .policy))) (vec-items (now (self .entry) .table .set .tasks)) (now (self .entry) .given) figures r ⌝ }
+        ensures tasks { λ r. ⌜ Holds-after (vec-items (now (self .entry) .table .set .tasks)) figures (vec-items (now (self .exit) .table .set .tasks)) r ⌝ }
+        ensures tickets { λ r. ⌜ Cases r (λ n. (now (self .exit) .given ≡ n) × (vec-items (now (self .exit) .table .tickets) ≡ vec-items (now (self .entry) .table .tickets) ++ n ∷ [])) (λ _. (now (self .exit) .given ≡ now (self .entry) .given) × (vec-items (now (self .exit) .table .tickets) ≡ vec-items (now (self .entry) .table .tickets)) × (now (self .exit) .drive ≡ now (self .entry) .drive)) ⌝ }
+        ensures kept { λ _. ⌜ (now (self .exit) .processor ≡ now (self .entry) .processor) × (now (self .exit) .platform ≡ now (self .entry) .platform) × (now (self .exit) .policy ≡ now (self .entry) .policy) ⌝ }
+        ensures sound { λ _. ⌜ (Sound (now (self .entry) .processor) (Q·Policy .span (now (self .entry) .policy)) (Feasible (P·Platform .supply (now (self .entry) .platform)) (Q·Policy .full (now (self .entry) .policy))) (vec-items (now (self .entry) .table .set .tasks)) (now (self .entry) .drive) → Sound (now (self .exit) .processor) (Q·Policy .span (now (self .exit) .policy)) (Feasible (P·Platform .supply (now (self .exit) .platform)) (Q·Policy .full (now (self .exit) .policy))) (vec-items (now (self .exit) .table .set .tasks)) (now (self .exit) .drive)) ⌝ }
+    {
         let task = Task::new(figures)?;
-        let ticket = self.given.saturating_add(1);
-        self.table.add(ticket, task)?;
+        let ticket = self.given + 1;
+        if let Err(refusal) = self.table.add(ticket, task) {
+            return Err(refusal);
+        }
         match self.settled(ticket) {
             Ok(drive) => {
                 self.given = ticket;
@@ -60,7 +78,9 @@ impl<P: Platform, Q: Policy> Plan<P, Q> {
     }
 
     // The cheapest drive for the tasks in the table, if the newest may have its ticket.
-    fn settled(&self, ticket: u32) -> Result<Drive, Refusal> {
+    fn settled(&self, ticket: u32) -> Result<Drive, Refusal>
+        ensures { λ r. ⌜ Settles (now (self .entry) .processor) (Q·Policy .span (now (self .entry) .policy)) (Feasible (P·Platform .supply (now (self .entry) .platform)) (Q·Policy .full (now (self .entry) .policy))) (vec-items (now (self .entry) .table .set .tasks)) ticket r ⌝ }
+    {
         if ticket > LAST_TICKET {
             return Err(Refusal::NoTickets);
         }
@@ -72,7 +92,9 @@ impl<P: Platform, Q: Policy> Plan<P, Q> {
     }
 
     // The present drive.
-    pub fn drive(&self) -> Drive {
+    pub fn drive(&self) -> Drive
+        ensures { λ r. ⌜ r ≡ now (self .entry) .drive ⌝ }
+    {
         self.drive
     }
 }
