@@ -5,7 +5,7 @@ use mathlib.Core.Bool.{Bool, true, false, cond}
 use mathlib.Core.List.{List, [], _∷_, _++_}
 use mathlib.Core.Logic.{_⊎_, inl, inr, ⊎-elim}
 use native.Mathlib.Omega.{arith}
-use borrow.Author.Tests.{lt-ltb, le-ltb}
+use borrow.Author.Tests.{lt-ltb, le-ltb, eq-eqb}
 use lib.Dec.{ltb}
 use lib.ListN.{length, take, length-append}
 use Rattle.std.proofs.shelf.Lists.{take-at}
@@ -14,7 +14,11 @@ use Rattle.std.specs.declared.option.Option.{Option}
 use Rattle.std.specs.declared.option.Option.the-variants.{Some, None}
 use Rattle.std.specs.declared.result.Result.{Result}
 use Rattle.std.specs.declared.result.Result.the-variants.{Ok, Err}
+use Rattle.std.specs.Of.Vec.{vec-items}
 use Rattle.processor.specs.Candidates.{Candidate}
+use Rattle.processor.specs.Tables.{mode-of}
+use Rattle.processor.specs.declared.mode.Mode.{Mode}
+use Rattle.processor.specs.declared.drive.Drive.the-variants.{Fixed}
 use Rattle.processor.specs.declared.drive.Drive.{Drive}
 use Rattle.processor.specs.declared.refusal.Refusal.{Refusal}
 use Rattle.processor.specs.declared.refusal.Refusal.the-variants.{RankTaken, PlanFull, NoTickets, OutsideSpan, NoDrive}
@@ -92,3 +96,15 @@ module _ (t : Processor) (span : List Task → Bool) (meets : List Task → Driv
       refused-by-search e (inr (inr (f, h, s, n))) =
           let N : List Task → Type 0 = λ v. No-drive t (meets v) in
           inr (task, fig, inr (spanned h (ap span (sym is) ∙ s), f, subst N is n))
+
+-- a table that lists a mode has a candidate
+pub some-candidate : (t : Processor) → 0 < length (vec-items (t .modes)) → (m : Mode) × Candidate t (Fixed m)
+some-candidate t h = front (vec-items (t .modes)) h
+  where
+    front : (ms : List Mode) → 0 < length ms → (m : Mode) × (mode-of (m .number) ms ≡ Some m)
+    front [] l = absurd (omega arith)
+    front (m ∷ ms) l = (m, let e = eq-eqb (m .number) (m .number) refl in rw e)
+
+pub empty-list : {X : Type 0} (xs : List X) → length xs ≡ 0 → xs ≡ []
+empty-list [] e = refl
+empty-list (x ∷ xs) e = absurd (omega arith)

@@ -1,4 +1,5 @@
 pub mod feasible;
+pub mod open;
 pub mod opening;
 pub mod plan;
 pub mod search;

@@ -1,19 +1,19 @@
-use crate::plan::Plan;
-use crate::search::cheapest;
+ghost use Prim.Native.Nat.{_<_};
+ghost use mathlib.Core.Path.{_≡_};
+ghost use lib.ListN.{length};
+ghost use Rattle.std.specs.Of.Vec.{vec-items};
 use crate::table::TaskTable;
-use demand::policy::Policy;
-use processor::drive::Drive;
 use processor::refusal::Refusal;
 use processor::table::Processor;
-use std::alloc::Global;
-use supply::platform::Platform;
 
-// A processor over which a plan may be opened, with the memory that the plan needs.
+// A processor over which a plan may be opened, since it has a mode, with the memory that the plan needs.
 #[derive(Drop)]
 pub struct Opening {
-    processor: Processor,
-    table: TaskTable,
-    first: Drive,
+    pub(crate) processor: Processor,
+    pub(crate) table: TaskTable,
+    ghost some_mode: { 0 < length (vec-items (processor .modes)) },
+    ghost no_tasks: { length (vec-items (table .set .tasks)) ≡ 0 },
+    ghost no_tickets: { length (vec-items (table .tickets)) ≡ 0 },
 }
 
 // A processor over which none may be opened, and why.
@@ -24,44 +24,9 @@ pub struct Unopened {
 }
 
 pub impl From<Unopened> for Refusal as RefusalFromUnopened {
+    ghost converts = { λ u r. r ≡ u .refusal };
+
     fn from(unopened: Unopened) -> Refusal {
         unopened.refusal
-    }
-}
-
-impl Opening {
-    // Whether a plan may be opened.
-    pub fn new(heap: Global, processor: Processor) -> Result<Opening, Unopened> {
-        let Some(mode) = processor.first_mode() else {
-            return Err(Unopened {
-                refusal: Refusal::NoMode,
-                processor,
-            });
-        };
-        match TaskTable::new(heap) {
-            Ok(table) => Ok(Opening {
-                processor,
-                table,
-                first: Drive::Fixed(mode),
-            }),
-            Err(_) => Err(Unopened {
-                refusal: Refusal::Memory,
-                processor,
-            }),
-        }
-    }
-
-    // Opens the plan, without tasks.
-    pub fn open<P: Platform, Q: Policy>(self, platform: P, policy: Q) -> Plan<P, Q> {
-        let Opening {
-            processor,
-            table,
-            first,
-        } = self;
-        let drive = match cheapest(&processor, &platform, &policy, table.set()) {
-            Some(drive) => drive,
-            None => first,
-        };
-        Plan::over(processor, platform, policy, table, drive)
     }
 }
