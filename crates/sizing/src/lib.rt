@@ -1,3 +1,4 @@
+pub mod advice;
 pub mod program;
 pub mod size;
 #[cfg(test)]

@@ -20,15 +20,15 @@ use supply::formula::Formula;
 use supply::formula::FormulaPlatform;
 use supply::platform::Platform;
 
-// What is printed of two files: the report of their plan, or the one line of a fault.
+// What is printed of two files: the report of their plan, or the one line of a fault, with the fault.
 #[derive(Drop)]
 pub enum Outcome {
     Report(Vec<u8>),
-    Faulty(Vec<u8>),
+    Faulty(Vec<u8>, Fault),
 }
 
 // The line of a fault.
-fn fault_line(heap: Global, fault: &Fault) -> Result<Outcome, Refusal> {
+fn fault_line(heap: Global, fault: Fault) -> Result<Outcome, Refusal> {
     let mut text = vec![in heap; 0; LONGEST_LINE]?;
     let line = FaultLine {
         refusal: fault.cause,
@@ -38,7 +38,7 @@ fn fault_line(heap: Global, fault: &Fault) -> Result<Outcome, Refusal> {
     };
     let end = write_fault(&mut text, 0, &line)?;
     text.truncate(end);
-    Ok(Outcome::Faulty(text))
+    Ok(Outcome::Faulty(text, fault))
 }
 
 // Admits each task in turn and writes what came of it.
@@ -74,12 +74,12 @@ pub fn size<Q: Policy + Drop>(
 ) -> Result<Outcome, Refusal> {
     let processor = match read_processor(heap, processor_file) {
         Ok(processor) => processor,
-        Err(Unread::Faulty(fault)) => return fault_line(heap, &fault),
+        Err(Unread::Faulty(fault)) => return fault_line(heap, fault),
         Err(Unread::Memory) => return Err(Refusal::Memory),
     };
     let tasks = match read_tasks(heap, tasks_file) {
         Ok(tasks) => tasks,
-        Err(Unread::Faulty(fault)) => return fault_line(heap, &fault),
+        Err(Unread::Faulty(fault)) => return fault_line(heap, fault),
         Err(Unread::Memory) => return Err(Refusal::Memory),
     };
     let opening = Opening::new(heap, processor)?;

@@ -15,7 +15,7 @@ const TASKS: &[u8] = b"rank,cycles,fixed,period,deadline\r\n1,240000,400,9600,96
 fn prints(outcome: Result<Outcome, Refusal>, faulty: bool, text: &[u8]) -> Result<(), Fail> {
     match outcome? {
         Outcome::Report(printed) => check(!faulty && printed.as_slice() == text),
-        Outcome::Faulty(printed) => check(faulty && printed.as_slice() == text),
+        Outcome::Faulty(printed, _) => check(faulty && printed.as_slice() == text),
     }
 }
 
