@@ -5,12 +5,18 @@ use mathlib.Core.Path.{_≡_}
 use lib.ListN.{length}
 use Rattle.std.specs.declared.result.Result.{Result}
 use Rattle.std.specs.declared.result.Result.the-variants.{Ok, Err}
+use Rattle.std.specs.Of.Vec.{vec-items}
+use Rattle.processor.specs.Tables.{mode-answer, switch-answer, frame-answer, Lists-mode, Lists-switch}
+use Rattle.processor.specs.declared.mode.Mode.{Mode}
+use Rattle.processor.specs.declared.mode.Switch.{Switch}
 use Rattle.processor.specs.declared.refusal.Refusal.{Refusal}
 use Rattle.processor.specs.declared.refusal.Refusal.the-variants as refusal
+use Rattle.processor.specs.declared.table.Processor.{Processor as ProcessorTable}
 use Rattle.input.specs.Cells.{fault-of}
 use Rattle.input.specs.Entries.{EntryIn}
 use Rattle.input.specs.Headers.{HeaderIn, EntryAt}
 use Rattle.input.specs.declared.entry.Entry.{Entry}
+use Rattle.input.specs.declared.entry.Entry.the-variants.{Mode as AMode, Switch as ASwitch, Frame as AFrame}
 use Rattle.input.specs.declared.fault.Fault.{Fault}
 use Rattle.input.specs.declared.fault.Layer.the-variants.{Table}
 use Rattle.input.specs.declared.fault.Source.the-variants.{Processor}
@@ -56,27 +62,41 @@ field-refused refusal.LengthsDiffer = 0
 field-refused refusal.NoRoom = 0
 field-refused refusal.Memory = 0
 
--- the table refuses the entry of a record
-abbrev pub TableFault : Line → Unread → Type 0
-TableFault line (Faulty e) = e ≡ fault-of line Table (e .cause) (field-refused (e .cause))
-TableFault line Memory = Unit {0}
+-- what the table answers to an entry
+abbrev pub entry-answer : Entry → List Mode → List Switch → List ℕ → Result (Unit {0}) Refusal
+entry-answer (AMode number speed power) ms ss ps = mode-answer ms number speed power
+entry-answer (ASwitch a b time) ms ss ps = switch-answer ms ss a b time
+entry-answer (AFrame p) ms ss ps = frame-answer ps p
 
--- so many records after the header are read, as these entries, up to a place
-pub data EntriesUpTo (file : List ℕ) : ℕ → ℕ → List Entry → Type 0 where
-  header : {at : ℕ} → HeaderIn file Processor (Ok at) → EntriesUpTo file 0 at []
-  entry : {n at : ℕ} {es : List Entry} (line : Line) (e : Entry) → EntriesUpTo file n at es → at < length file → EntryAt file Processor (n + 1) at (Ok line) → EntryIn file line (Ok e) → EntriesUpTo file (n + 1) (line .«record» .next) (es ++ e ∷ [])
+-- the table with one entry more: what it listed, and what it lists then
+abbrev pub Entered : Entry → List Mode → List Switch → List ℕ → List Mode → List Switch → List ℕ → Type 0
+Entered (AMode number speed power) ms ss ps ms2 ss2 ps2 = Lists-mode ms ms2 number speed power × (ss2 ≡ ss) × (ps2 ≡ ps)
+Entered (ASwitch a b time) ms ss ps ms2 ss2 ps2 = Lists-switch ss ss2 a b time × (ms2 ≡ ms) × (ps2 ≡ ps)
+Entered (AFrame p) ms ss ps ms2 ss2 ps2 = (ps2 ≡ ps ++ p ∷ []) × (ms2 ≡ ms) × (ss2 ≡ ss)
+
+-- the table refuses the entry of a record
+abbrev pub TableFault : Line → Entry → List Mode → List Switch → List ℕ → Fault → Type 0
+TableFault line x ms ss ps e =
+    (c : Refusal) × (entry-answer x ms ss ps ≡ Err c) × (e ≡ fault-of line Table c (field-refused c))
+
+-- so many records after the header are read, up to a place, and the table lists their entries
+pub data EntriesUpTo (file : List ℕ) : ℕ → ℕ → List Mode → List Switch → List ℕ → Type 0 where
+  header : {at : ℕ} → HeaderIn file Processor (Ok at) → EntriesUpTo file 0 at [] [] []
+  entry : {n at : ℕ} {ms ms2 : List Mode} {ss ss2 : List Switch} {ps ps2 : List ℕ} (line : Line) (e : Entry) → EntriesUpTo file n at ms ss ps → at < length file → EntryAt file Processor (n + 1) at (Ok line) → EntryIn file line (Ok e) → entry-answer e ms ss ps ≡ Ok tt → Entered e ms ss ps ms2 ss2 ps2 → EntriesUpTo file (n + 1) (line .«record» .next) ms2 ss2 ps2
 
 -- the first fault of the file
 pub data ProcessorFault (file : List ℕ) (e : Fault) : Type 0 where
   in-header : HeaderIn file Processor (Err e) → ProcessorFault file e
-  in-record : {n at : ℕ} {es : List Entry} → EntriesUpTo file n at es → at < length file → EntryAt file Processor (n + 1) at (Err e) → ProcessorFault file e
-  in-field : {n at : ℕ} {es : List Entry} (line : Line) → EntriesUpTo file n at es → at < length file → EntryAt file Processor (n + 1) at (Ok line) → EntryIn file line (Err e) → ProcessorFault file e
-  in-table : {n at : ℕ} {es : List Entry} (line : Line) (x : Entry) → EntriesUpTo file n at es → at < length file → EntryAt file Processor (n + 1) at (Ok line) → EntryIn file line (Ok x) → TableFault line (Faulty e) → ProcessorFault file e
-  no-mode : {n at : ℕ} {es : List Entry} → EntriesUpTo file n at es → length file ≤ at → e ≡ record { layer = Table; cause = refusal.NoMode; file = Processor; «record» = 0; field = 0 } → ProcessorFault file e
+  in-record : {n at : ℕ} {ms : List Mode} {ss : List Switch} {ps : List ℕ} → EntriesUpTo file n at ms ss ps → at < length file → EntryAt file Processor (n + 1) at (Err e) → ProcessorFault file e
+  in-field : {n at : ℕ} {ms : List Mode} {ss : List Switch} {ps : List ℕ} (line : Line) → EntriesUpTo file n at ms ss ps → at < length file → EntryAt file Processor (n + 1) at (Ok line) → EntryIn file line (Err e) → ProcessorFault file e
+  in-table : {n at : ℕ} {ms : List Mode} {ss : List Switch} {ps : List ℕ} (line : Line) (x : Entry) → EntriesUpTo file n at ms ss ps → at < length file → EntryAt file Processor (n + 1) at (Ok line) → EntryIn file line (Ok x) → TableFault line x ms ss ps e → ProcessorFault file e
+  no-mode : {n at : ℕ} {ms : List Mode} {ss : List Switch} {ps : List ℕ} → EntriesUpTo file n at ms ss ps → length file ≤ at → length ms ≡ 0 → e ≡ record { layer = Table; cause = refusal.NoMode; file = Processor; «record» = 0; field = 0 } → ProcessorFault file e
 
--- what the reading of the file answers
-abbrev pub EntriesRead : List ℕ → Type 0
-EntriesRead file = (n : ℕ) × (at : ℕ) × (es : List Entry) × EntriesUpTo file n at es × (length file ≤ at)
+-- the whole file is read, and the table lists its entries, at least one mode among them
+abbrev pub EntriesRead : List ℕ → ProcessorTable → Type 0
+EntriesRead file t =
+    (n : ℕ) × (at : ℕ) × EntriesUpTo file n at (vec-items (t .modes)) (vec-items (t .switches)) (vec-items (t .frames))
+    × (length file ≤ at) × (0 < length (vec-items (t .modes)))
 
 abbrev pub Blamed : List ℕ → Unread → Type 0
 Blamed file (Faulty e) = ProcessorFault file e

@@ -1,6 +1,9 @@
 ghost use mathlib.Core.Path.{_≡_};
-ghost use Rattle.input.specs.ProcessorFiles.{field-refused, TableFault, EntriesRead, Blamed};
+ghost use Rattle.input.specs.ProcessorFiles.{field-refused, entry-answer, Entered, TableFault, EntriesRead, Blamed};
+ghost use Rattle.std.specs.Of.Vec.{vec-items};
 ghost use Rattle.std.specs.Results.{Cases as ByOk};
+ghost use Rattle.std.specs.Vec.{made, refused};
+ghost use Rattle.std.specs.declared.result.Result.the-variants.{Ok};
 use crate::entry::Entry;
 use crate::entry::entry_of;
 use crate::fault::Fault;
@@ -30,21 +33,13 @@ fn refused_field(cause: Refusal) -> u32
     }
 }
 
-// The table's refusal of a record.
-fn refused(line: &Line, cause: Refusal) -> Unread
-    ensures { λ r. ⌜ TableFault (now (line .entry)) r ⌝ }
+// Puts an entry into the table.
+fn enter(table: &mut Processor, entry: Entry) -> Result<(), Refusal>
+    ensures answer { λ r. ⌜ r ≡ entry-answer entry (vec-items (now (table .entry) .modes)) (vec-items (now (table .entry) .switches)) (vec-items (now (table .entry) .frames)) ⌝ }
+    ensures entered { λ r. ⌜ made r (λ _. Entered entry (vec-items (now (table .entry) .modes)) (vec-items (now (table .entry) .switches)) (vec-items (now (table .entry) .frames)) (vec-items (now (table .exit) .modes)) (vec-items (now (table .exit) .switches)) (vec-items (now (table .exit) .frames))) ⌝ }
+    ensures same { λ r. ⌜ refused r (λ _. now (table .exit) ≡ now (table .entry)) ⌝ }
 {
-    match cause {
-        Refusal::Memory => Unread::Memory,
-        _ => Unread::Faulty(line.fault(Layer::Table, cause, refused_field(cause))),
-    }
-}
-
-// Lists the entry of a record in the table.
-fn list(table: &mut Processor, line: &Line, entry: Entry) -> Result<(), Unread>
-    ensures { λ r. ⌜ ByOk r (λ _. Unit {0}) (λ u. TableFault (now (line .entry)) u) ⌝ }
-{
-    let listed = match entry {
+    match entry {
         Entry::Mode {
             number,
             speed,
@@ -52,16 +47,24 @@ fn list(table: &mut Processor, line: &Line, entry: Entry) -> Result<(), Unread>
         } => table.add_mode(number, speed, power),
         Entry::Switch { from, to, time } => table.add_switch(from, to, time),
         Entry::Frame { length } => table.add_frame(length),
-    };
-    match listed {
+    }
+}
+
+// Lists the entry of a record in the table.
+fn list(table: &mut Processor, line: &Line, entry: Entry) -> Result<(), Fault>
+    ensures answer { λ r. ⌜ ByOk r (λ _. entry-answer entry (vec-items (now (table .entry) .modes)) (vec-items (now (table .entry) .switches)) (vec-items (now (table .entry) .frames)) ≡ Ok tt) (λ e. TableFault (now (line .entry)) entry (vec-items (now (table .entry) .modes)) (vec-items (now (table .entry) .switches)) (vec-items (now (table .entry) .frames)) e) ⌝ }
+    ensures entered { λ r. ⌜ made r (λ _. Entered entry (vec-items (now (table .entry) .modes)) (vec-items (now (table .entry) .switches)) (vec-items (now (table .entry) .frames)) (vec-items (now (table .exit) .modes)) (vec-items (now (table .exit) .switches)) (vec-items (now (table .exit) .frames))) ⌝ }
+    ensures same { λ r. ⌜ refused r (λ _. now (table .exit) ≡ now (table .entry)) ⌝ }
+{
+    match enter(table, entry) {
         Ok(()) => Ok(()),
-        Err(cause) => Err(refused(line, cause)),
+        Err(cause) => Err(line.fault(Layer::Table, cause, refused_field(cause))),
     }
 }
 
 // Reads the processor's file: its table, or what is wrong with the first record that has a fault.
 pub fn read_processor(heap: Global, file: &[u8]) -> Result<Processor, Unread>
-    ensures { λ r. ⌜ ByOk r (λ _. EntriesRead (now (file .entry))) (λ u. Blamed (now (file .entry)) u) ⌝ }
+    ensures { λ r. ⌜ ByOk r (λ t. EntriesRead (now (file .entry)) t) (λ u. Blamed (now (file .entry)) u) ⌝ }
 {
     let mut at = read_header(file, Source::Processor)?;
     let mut table = Processor::new(heap)?;
