@@ -67,9 +67,10 @@ module _ (meets : Drive → Type 0) where
         let P : Drive → Type 0 = λ v. ((a ≡ Some v) ⊎ (G₁ v × meets v × Cases a (Unit {0}) (λ b. No-dearer v b))) × ((y : Drive) → G₁ y → meets y → No-dearer v y) in
         let (u, l) = subst P e (w, least₁) in
         (⊎-elim (λ q. inl q) (λ (g, m, c). inr (one d g, m, c)) u, λ y h k. ⊎-elim (λ i. l y i k) (λ i. least₂ y i k) (parts y h))
-    improves-join a (Some x) (Some d) (w, least₁) (inr (g, m, t), least₂) =
-        (inr (two d g, m, beats d x a w t),
-        λ y h k. ⊎-elim (λ i. dearer-trans d x y t (least₁ y i k)) (λ i. least₂ y i k) (parts y h))
+    improves-join a (Some x) (Some d) (w, least₁) (inr (g, m, t), least₂) = (
+      inr (two d g, m, beats d x a w t),
+      λ y h k. ⊎-elim (λ i. dearer-trans d x y t (least₁ y i k)) (λ i. least₂ y i k) (parts y h),
+    )
 
   -- the groups of one index more
   pub improves-next : (groups : ℕ → Drive → Type 0) (n : ℕ) (a b c : Option Drive)

@@ -49,8 +49,8 @@ module _ (ms : List Mode) (m : Mode) (apart : modes-differ ms ≡ true) (new : h
   pub modes-room : length ms < last-mode
   modes-room =
       let k = few (λ a b. has-number (b .number) a) (λ a. a .number - 1)
-          (λ a b e. eq-eqb (a .number) (b .number) (omega (arith, a .counted, b .counted)))
-          last-mode (ms ++ m ∷ []) (λ a. omega (arith, a .counted, a .numbered)) modes-more in
+      (λ a b e. eq-eqb (a .number) (b .number) (omega (arith, a .counted, b .counted)))
+      last-mode (ms ++ m ∷ []) (λ a. omega (arith, a .counted, a .numbered)) modes-more in
       let e = length-append ms (m ∷ []) in
       omega arith
 
@@ -73,10 +73,11 @@ module _ (ss : List Switch) (s : Switch) (apart : switches-differ ss ≡ true) (
   pub switches-room : length ss < most-switches
   switches-room =
       let k = few (λ a b. leads (b .from) (b .to) a) (λ a. (a .from - 1) * 16 + (a .to - 1))
-          (λ a b e. leads-same a b
-          (omega (arith, a .«counted_from», b .«counted_from», a .«counted_to», b .«counted_to», a .«numbered_to», b .«numbered_to»),
-          omega (arith, a .«counted_from», b .«counted_from», a .«counted_to», b .«counted_to», a .«numbered_to», b .«numbered_to»)))
-          most-switches (ss ++ s ∷ []) (λ a. omega (arith, a .«counted_from», a .«numbered_from», a .«counted_to», a .«numbered_to»)) switches-more in
+      (λ a b e. leads-same a b (
+        omega (arith, a .«counted_from», b .«counted_from», a .«counted_to», b .«counted_to», a .«numbered_to», b .«numbered_to»),
+        omega (arith, a .«counted_from», b .«counted_from», a .«counted_to», b .«counted_to», a .«numbered_to», b .«numbered_to»),
+      ))
+      most-switches (ss ++ s ∷ []) (λ a. omega (arith, a .«counted_from», a .«numbered_from», a .«counted_to», a .«numbered_to»)) switches-more in
       let e = length-append ss (s ∷ []) in
       omega arith
 

@@ -25,17 +25,19 @@ module _ (low high : Mode) (up down frame q : ℕ) where
   lawful-inside (i, w, p) =
       let r : q + down < frame = omega (arith, p .low-runs) in
       let e : frame - q + q ≡ frame = omega arith in
-      let f = ap (λ v. low .speed * v) e in
-      (paid (low .speed) (high .speed) down up q (p .faster)
-      (gains-only (low .speed) (high .speed) down up frame q (p .faster) r (p .high-runs) (omega (arith, p .gains))),
-      omega arith)
+      let f = ap (λ v. low .speed * v) e in (
+        paid (low .speed) (high .speed) down up q (p .faster)
+            (gains-only (low .speed) (high .speed) down up frame q (p .faster) r (p .high-runs) (omega (arith, p .gains))),
+        omega arith,
+      )
 
   pub inside-lawful : low .speed < high .speed → up ≤ longest-switch → down ≤ longest-switch → frame ≤ longest-frame
       → least-time (low .speed) (high .speed) down up ≤ q → q + down + 1 ≤ frame → Lawful-split low high up down frame q
   inside-lawful faster su sd sf i r =
       let g = gains (low .speed) (high .speed) down up frame q faster (omega arith) (pays (low .speed) (high .speed) down up q faster i) in
       let e : frame - q + q ≡ frame = omega arith in
-      let f = ap (λ v. low .speed * v) e in
-      (omega arith,
-      record { short-up = su; short-down = sd; short-frame = omega arith },
-      record { faster = faster; low-runs = omega arith; high-runs = g .0; gains = omega (arith, g .1) })
+      let f = ap (λ v. low .speed * v) e in (
+        omega arith,
+        record { short-up = su; short-down = sd; short-frame = omega arith },
+        record { faster = faster; low-runs = omega arith; high-runs = g .0; gains = omega (arith, g .1) },
+      )

@@ -43,8 +43,11 @@ module _ (bound x : ℕ) (ps : List ℕ) where
   longest-push (Some y) n =
       ⊎-elim
       (λ (t : ltb x bound ≡ true). rw t (⊎-elim
-      (λ (u : ltb y x ≡ true). rw u (ltb-true x bound t, has-last x ps,
-      λ p e l. let k = ltb-true y x u in ⊎-elim (λ q. let j = n .2 p q l in omega arith) (λ q. omega arith) (has-push p x ps e)))
+      (λ (u : ltb y x ≡ true). rw u (
+        ltb-true x bound t,
+        has-last x ps,
+        λ p e l. let k = ltb-true y x u in ⊎-elim (λ q. let j = n .2 p q l in omega arith) (λ q. omega arith) (has-push p x ps e),
+      ))
       (λ (u : ltb y x ≡ false). rw u (keeps y n (λ _. ltb-false y x u))) (cases-bool (ltb y x))))
       (λ (t : ltb x bound ≡ false). rw t (let k = ltb-false x bound t in keeps y n (λ l. omega arith)))
       (cases-bool (ltb x bound))

@@ -24,5 +24,5 @@ same-pair p r a b u d f l h = λ i. record {
   whole = isProp→PathP (λ j. l j + h j ≡ f j) (λ j. ℕ-set (l j + h j) (f j)) (p .whole) (r .whole) i;
   «low_runs» = isProp→PathP (λ j. d j < l j) (λ j. le-prop) (p .«low_runs») (r .«low_runs») i;
   «high_runs» = isProp→PathP (λ j. u j < h j) (λ j. le-prop) (p .«high_runs») (r .«high_runs») i;
-  gains = isProp→PathP (λ j. a j .speed * f j < a j .speed * (l j - d j) + b j .speed * (h j - u j)) (λ j. le-prop) (p .gains) (r .gains) i
+  gains = isProp→PathP (λ j. a j .speed * f j < a j .speed * (l j - d j) + b j .speed * (h j - u j)) (λ j. le-prop) (p .gains) (r .gains) i;
 }

@@ -23,10 +23,11 @@ use Rattle.processor.proofs.Finds.{first-passes}
 pub pair-lawful : (p : Pair) → Lawful-split (p .low) (p .high) (p .up) (p .down) (p .frame) (p .«high_time»)
 pair-lawful p =
     let e : p .frame - p .«high_time» ≡ p .«low_time» = omega (arith, p .whole) in
-    let g : p .frame ≡ p .«low_time» + p .«high_time» = sym (p .whole) in
-    (omega (arith, p .whole),
-    record { short-up = p .«short_up»; short-down = p .«short_down»; short-frame = omega (arith, p .«short_frame», p .whole) },
-    rw e (record { faster = p .faster; low-runs = p .«low_runs»; high-runs = p .«high_runs»; gains = rw (p .whole) (p .gains) }))
+    let g : p .frame ≡ p .«low_time» + p .«high_time» = sym (p .whole) in (
+      omega (arith, p .whole),
+      record { short-up = p .«short_up»; short-down = p .«short_down»; short-frame = omega (arith, p .«short_frame», p .whole) },
+      rw e (record { faster = p .faster; low-runs = p .«low_runs»; high-runs = p .«high_runs»; gains = rw (p .whole) (p .gains) }),
+    )
 
 -- the mode that is found has the number
 pub found-number : (t : Processor) (n : ℕ) (m : Mode) → mode-of n (vec-items (t .modes)) ≡ Some m → m .number ≡ n
@@ -78,12 +79,18 @@ module _ (t : Processor) (frame low high up down : ℕ) (lm hm : Mode)
       let nh : p .high .number ≡ high = ap (λ v. v .number) ph ∙ found-number t high hm eh in
       let fr : p .frame ≡ frame = cc in
       let pu : up ≡ p .up = cc in
-      let pd : down ≡ p .down = cc in
-      ((ap (λ n. mode-of n (vec-items (t .modes))) nl ∙ el ∙ ap Some (sym pl),
-      ap (λ n. mode-of n (vec-items (t .modes))) nh ∙ eh ∙ ap Some (sym ph),
-      ap (λ n. time-of n (p .high .number) (vec-items (t .switches))) nl ∙ ap (λ n. time-of low n (vec-items (t .switches))) nh ∙ eu ∙ ap Some pu,
-      ap (λ n. time-of n (p .low .number) (vec-items (t .switches))) nh ∙ ap (λ n. time-of high n (vec-items (t .switches))) nl ∙ ed ∙ ap Some pd,
-      ap (λ n. has-frame n (vec-items (t .frames))) fr ∙ ef), nl, nh, fr)
+      let pd : down ≡ p .down = cc in (
+        (
+          ap (λ n. mode-of n (vec-items (t .modes))) nl ∙ el ∙ ap Some (sym pl),
+          ap (λ n. mode-of n (vec-items (t .modes))) nh ∙ eh ∙ ap Some (sym ph),
+          ap (λ n. time-of n (p .high .number) (vec-items (t .switches))) nl ∙ ap (λ n. time-of low n (vec-items (t .switches))) nh ∙ eu ∙ ap Some pu,
+          ap (λ n. time-of n (p .low .number) (vec-items (t .switches))) nh ∙ ap (λ n. time-of high n (vec-items (t .switches))) nl ∙ ed ∙ ap Some pd,
+          ap (λ n. has-frame n (vec-items (t .frames))) fr ∙ ef,
+        ),
+        nl,
+        nh,
+        fr,
+      )
 
   pub stream : (r : Option Splits)
       → Cases r ((q : ℕ) → Lawful-split lm hm up down frame q → ⊥)

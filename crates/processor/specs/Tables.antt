@@ -15,8 +15,18 @@ use Rattle.processor.specs.declared.mode.Mode.{Mode}
 use Rattle.processor.specs.declared.mode.Switch.{Switch}
 use Rattle.processor.specs.declared.refusal.Refusal.{Refusal}
 use Rattle.processor.specs.declared.refusal.Refusal.the-variants.{
-  ModeNumber, ModeRepeated, SpeedLimit, PowerLimit, FromUnlisted, ToUnlisted, SwitchToItself, SwitchRepeated, SwitchLimit,
-  FrameLimit, FrameRepeated, NinthFrame
+  ModeNumber,
+  ModeRepeated,
+  SpeedLimit,
+  PowerLimit,
+  FromUnlisted,
+  ToUnlisted,
+  SwitchToItself,
+  SwitchRepeated,
+  SwitchLimit,
+  FrameLimit,
+  FrameRepeated,
+  NinthFrame,
 }
 
 abbrev pub has-number : ℕ → Mode → Bool

@@ -73,7 +73,10 @@ fn pairs(rt: LibcRuntime) -> Result<(), Fail> {
         (3, 3, 0, 0, false),
     ];
     for (low, high, low_time, high_time, listed) in cases {
-        check_eq(table.candidate(low, high, low_time, high_time).is_some(), listed)?;
+        check_eq(
+            table.candidate(low, high, low_time, high_time).is_some(),
+            listed,
+        )?;
     }
     Ok(())
 }

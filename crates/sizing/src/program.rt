@@ -56,7 +56,10 @@ fn explain(
     let wanted = expected(fault.cause);
     let record = fault.record;
     let field = fault.field;
-    eprint!(rt, "{path}: record {record}, field {field}: expected {wanted}")?;
+    eprint!(
+        rt,
+        "{path}: record {record}, field {field}: expected {wanted}"
+    )?;
     if let Some(bytes) = text {
         rt.stderr().write_all(b", found ")?;
         rt.stderr().write_all(bytes)?;
@@ -95,7 +98,13 @@ pub fn run<Q: Policy + Drop>(rt: &LibcRuntime, policy: Q) -> Result<(), AnyError
         }
         Ok(Outcome::Faulty(line, fault)) => {
             let names = (processor_path.as_str(), tasks_path.as_str());
-            print_fault(rt, line.as_slice(), &fault, (names.0, processor), (names.1, tasks))?;
+            print_fault(
+                rt,
+                line.as_slice(),
+                &fault,
+                (names.0, processor),
+                (names.1, tasks),
+            )?;
             Err("a file has a fault".into())
         }
         Err(_) => Err("there is not enough memory".into()),

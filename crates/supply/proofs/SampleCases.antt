@@ -1,13 +1,15 @@
 -- The supplies of the sample by the closed formula.
 use Prim.Native.Nat.{ℕ}
-use mathlib.Core.Path.{_≡_, refl, ap, _∙_}
+use mathlib.Core.Path.{_≡_, refl, ap, ap₂, _∙_}
 use native.Mathlib.Omega.{arith}
 use Rattle.processor.specs.declared.drive.Pair.{Pair}
+use Rattle.processor.specs.declared.mode.Mode.{Mode}
+use Rattle.processor.proofs.Intervals.{least-time, lawful-inside, inside-lawful}
 use Rattle.processor.specs.declared.drive.Drive.the-variants.{Pair as Turns}
 use Rattle.supply.specs.Patterns.{Pattern, pattern-of, supply-of}
 use Rattle.supply.specs.Formulas.{piece, closed}
 use Rattle.supply.specs.Layers.{share-of}
-use Rattle.supply.specs.Samples.{Sample, Samples-supply}
+use Rattle.supply.specs.Samples.{Sample, Samples-supply, Split-sampled, Samples-stand}
 use Rattle.supply.proofs.Supplies.{sum-is-closed}
 
 abbrev sample : Pattern
@@ -35,3 +37,16 @@ sampled p s =
       held-off = at 240 0 refl;
       held-on = at 241 20 refl;
     }
+
+split-sampled : (low high : Mode) → low .speed ≡ 20 → high .speed ≡ 40 → Split-sampled low high
+split-sampled low high e f =
+    let least : least-time (low .speed) (high .speed) 160 240 ≡ 641 = ap₂ (λ l h. least-time l h 160 240) e f in
+    record {
+      high-enough = inside-lawful low high 240 160 9600 641 (omega arith) (omega arith) (omega arith) (omega arith) (omega arith) (omega arith);
+      high-too-short = λ l. (let h = lawful-inside low high 240 160 9600 640 l in omega arith);
+      low-enough = inside-lawful low high 240 160 9600 9439 (omega arith) (omega arith) (omega arith) (omega arith) (omega arith) (omega arith);
+      low-too-short = λ l. (let h = lawful-inside low high 240 160 9600 9440 l in omega arith);
+    }
+
+pub samples-stand : Samples-stand
+samples-stand = (sampled, split-sampled)

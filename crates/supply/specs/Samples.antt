@@ -1,8 +1,10 @@
--- Supplies of one pair, worked out.
+-- One pair, worked out: which of its splits are lawful, and what it supplies.
 use Prim.Native.Nat.{ℕ}
 use mathlib.Core.Path.{_≡_}
 use Rattle.processor.specs.declared.drive.Drive.the-variants.{Pair as Turns}
+use Rattle.processor.specs.Intervals.{Lawful-split}
 use Rattle.processor.specs.declared.drive.Pair.{Pair}
+use Rattle.processor.specs.declared.mode.Mode.{Mode}
 use Rattle.supply.specs.Patterns.{supply-of}
 use Rattle.supply.specs.Layers.{share-of, holdoff-of}
 
@@ -32,3 +34,14 @@ pub record Sampled (Z : ℕ → ℕ) : Type 0 where
 
 abbrev pub Samples-supply : Type 0
 Samples-supply = (p : Pair) → Sample p → Sampled (supply-of (Turns p))
+
+-- of a frame of 9,600 between modes of 20 and 40 MHz: the least and the longest high time that are lawful, and one beyond
+pub record Split-sampled (low high : Mode) : Type 0 where
+  pub high-enough : Lawful-split low high 240 160 9600 641
+  pub high-too-short : Lawful-split low high 240 160 9600 640 → ⊥
+  pub low-enough : Lawful-split low high 240 160 9600 9439
+  pub low-too-short : Lawful-split low high 240 160 9600 9440 → ⊥
+
+-- the worked cases, all of them
+abbrev pub Samples-stand : Type 0
+Samples-stand = Samples-supply × ((low high : Mode) → low .speed ≡ 20 → high .speed ≡ 40 → Split-sampled low high)

@@ -1,6 +1,6 @@
-ghost use Rattle.supply.specs.Samples.{Samples-supply};
+ghost use Rattle.supply.specs.Samples.{Samples-stand};
 
-// Supplies of one pair, with a share and a holdoff over it, worked out.
-pub fn samples_supply()
-    ensures { λ _. ⌜ Samples-supply ⌝ }
+// One pair worked out: which of its splits are lawful, and its supplies, with a share and a holdoff over it.
+pub fn samples_stand()
+    ensures { λ _. ⌜ Samples-stand ⌝ }
 {}

@@ -22,12 +22,22 @@ ghost-self c =
     let s = c .args .self .now in
     let D : List Mode → Type 0 = λ ms. modes-differ ms ≡ true in
     let B : List Mode → Type 0 = λ ms. all (between ms) (vec-items (s .switches)) ≡ true in
-    let i = sym (c .push-reserved .ensures .items) in
-    (omega (arith, c .push-reserved .ensures .capacity, s .«modes_room»),
-    (subst D i (modes-more (vec-items (s .modes)) _ (s .«modes_apart») (sym (c .if-is-some .ensures tt ∙ ap isSome (c .mode .ensures)))),
-    (s .«switches_room», (s .«switches_apart»,
-    (subst B i (between-more (vec-items (s .modes)) _ (vec-items (s .switches)) (s .«switches_between»)),
-    (s .«frames_room», (s .«frames_few», (s .«frames_apart», (s .«frames_fit», tt)))))))))
+    let i = sym (c .push-reserved .ensures .items) in (
+      omega (arith, c .push-reserved .ensures .capacity, s .«modes_room»),
+      (
+        subst D i (modes-more (vec-items (s .modes)) _ (s .«modes_apart») (sym (c .if-is-some .ensures tt ∙ ap isSome (c .mode .ensures)))),
+        (
+          s .«switches_room»,
+          (
+            s .«switches_apart»,
+            (
+              subst B i (between-more (vec-items (s .modes)) _ (vec-items (s .switches)) (s .«switches_between»)),
+              (s .«frames_room», (s .«frames_few», (s .«frames_apart», (s .«frames_fit», tt)))),
+            ),
+          ),
+        ),
+      ),
+    )
 
 pub returns : need.returns
 returns c =

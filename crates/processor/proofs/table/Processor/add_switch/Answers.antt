@@ -24,9 +24,9 @@ push-reserved-requires c κs =
     let s = c .args .self .now in
     let ms = vec-items (s .modes) in
     let h = room-for-switch (vec-items (s .switches)) (c .args .from) (c .args .to)
-        (has-mode-limits (c .args .from) ms (listed-mode (c .args .from) ms (c .mode .result) (c .if-is-none .ensures tt) (c .mode .ensures)))
-        (has-mode-limits (c .args .to) ms (listed-mode (c .args .to) ms (c .mode-2 .result) (c .if-is-none-2 .ensures tt) (c .mode-2 .ensures)))
-        (c .if-from-to .left) (s .«switches_apart») (sym (c .if-is-some .ensures tt ∙ ap isSome (c .switch-time .ensures))) in
+    (has-mode-limits (c .args .from) ms (listed-mode (c .args .from) ms (c .mode .result) (c .if-is-none .ensures tt) (c .mode .ensures)))
+    (has-mode-limits (c .args .to) ms (listed-mode (c .args .to) ms (c .mode-2 .result) (c .if-is-none-2 .ensures tt) (c .mode-2 .ensures)))
+    (c .if-from-to .left) (s .«switches_apart») (sym (c .if-is-some .ensures tt ∙ ap isSome (c .switch-time .ensures))) in
     omega (arith, s .«switches_room», s .switches .ok .0)
 
 pub ghost-self : need.ghost-self
@@ -35,15 +35,25 @@ ghost-self c =
     let ms = vec-items (s .modes) in
     let D : List Switch → Type 0 = λ ss. switches-differ ss ≡ true in
     let B : List Switch → Type 0 = λ ss. all (between ms) ss ≡ true in
-    let i = sym (c .push-reserved .ensures .items) in
-    (s .«modes_room», (s .«modes_apart»,
-    (omega (arith, c .push-reserved .ensures .capacity, s .«switches_room»),
-    (subst D i (switches-more (vec-items (s .switches)) _ (s .«switches_apart») (sym (c .if-is-some .ensures tt ∙ ap isSome (c .switch-time .ensures)))),
-    (subst B i (all-push (between ms) (vec-items (s .switches)) _ (s .«switches_between»)
-    (between-these ms (c .args .from) (c .args .to)
-    (listed-mode (c .args .from) ms (c .mode .result) (c .if-is-none .ensures tt) (c .mode .ensures))
-    (listed-mode (c .args .to) ms (c .mode-2 .result) (c .if-is-none-2 .ensures tt) (c .mode-2 .ensures)))),
-    (s .«frames_room», (s .«frames_few», (s .«frames_apart», (s .«frames_fit», tt)))))))))
+    let i = sym (c .push-reserved .ensures .items) in (
+      s .«modes_room»,
+      (
+        s .«modes_apart»,
+        (
+          omega (arith, c .push-reserved .ensures .capacity, s .«switches_room»),
+          (
+            subst D i (switches-more (vec-items (s .switches)) _ (s .«switches_apart») (sym (c .if-is-some .ensures tt ∙ ap isSome (c .switch-time .ensures)))),
+            (
+              subst B i (all-push (between ms) (vec-items (s .switches)) _ (s .«switches_between»)
+                  (between-these ms (c .args .from) (c .args .to)
+                  (listed-mode (c .args .from) ms (c .mode .result) (c .if-is-none .ensures tt) (c .mode .ensures))
+                  (listed-mode (c .args .to) ms (c .mode-2 .result) (c .if-is-none-2 .ensures tt) (c .mode-2 .ensures)))),
+              (s .«frames_room», (s .«frames_few», (s .«frames_apart», (s .«frames_fit», tt)))),
+            ),
+          ),
+        ),
+      ),
+    )
 
 pub returns : need.returns
 returns c =

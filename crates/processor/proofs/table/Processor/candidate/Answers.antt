@@ -21,8 +21,8 @@ returns-in-Break-pair c =
     let t = c .args .self .now in
     let s = c .in-Continue-splits .ensures tt in
     let C : Option Drive → Type 0 = λ r. Cases r
-        ((d : Drive) → Candidate t d → Named (c .args .low) (c .args .high) (c .args .low-time) (c .args .high-time) d → ⊥)
-        (λ d. Candidate t d × Named (c .args .low) (c .args .high) (c .args .low-time) (c .args .high-time) d) in
+    ((d : Drive) → Candidate t d → Named (c .args .low) (c .args .high) (c .args .low-time) (c .args .high-time) d → ⊥)
+    (λ d. Candidate t d × Named (c .args .low) (c .args .high) (c .args .low-time) (c .args .high-time) d) in
     subst C (sym (c .from-residual-in-Break-pair .ensures))
     (none-named t (c .args .low) (c .args .high) (c .args .low-time) (c .args .high-time) (c .in-Continue-frame .frame) (c .if-low-high .left) (c .in-Continue-frame .ensures tt .1)
     (λ p o e. c .in-Break-pair .ensures tt (let w = s .0 p o .0 in (omega (arith, w .0), omega (arith, w .1)))))
