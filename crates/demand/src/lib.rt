@@ -1,3 +1,5 @@
+#![tactic(auto)]
+
 pub mod edf;
 pub mod figures;
 pub mod fp;

@@ -1,3 +1,5 @@
+#![tactic(auto)]
+
 use demand::edf::Edf;
 use sizing::program::run;
 

@@ -1,3 +1,5 @@
+#![tactic(auto)]
+
 use demand::fp::Fp;
 use sizing::program::run;
 

@@ -5,9 +5,9 @@ ghost use Rattle.input.specs.declared.fault.Source.TheVariants.{Processor, Tasks
 
 use crate::fault::{Fault, Layer, Source};
 use crate::figure::figure;
+use processor::refusal::Refusal;
 use rfc4180::part::Record;
 use rfc4180::records::{field, next_record};
-use processor::refusal::Refusal;
 
 // The longest file, in bytes.
 pub const LONGEST_FILE: usize = 65_536;

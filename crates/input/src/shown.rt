@@ -2,8 +2,8 @@ ghost use Rattle.std.specs.Prelude.{ℕ, List, MatchOption};
 ghost use Rattle.input.specs.Showing.{file_of, RecordStart, BrokenText, FieldText, FaultText};
 
 use crate::fault::{Fault, Source};
-use rfc4180::records::{field, next_record};
 use processor::refusal::Refusal;
+use rfc4180::records::{field, next_record};
 
 // Where the record of a number starts, the header being 0.
 fn record_start(file: &[u8], number: u32) -> Option<usize>

@@ -1,3 +1,5 @@
+#![tactic(auto)]
+
 pub mod feasible;
 pub mod open;
 pub mod opening;

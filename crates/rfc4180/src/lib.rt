@@ -1,3 +1,5 @@
+#![tactic(auto)]
+
 pub mod part;
 pub mod records;
 pub mod scan;

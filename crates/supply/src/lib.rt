@@ -1,3 +1,5 @@
+#![tactic(auto)]
+
 pub mod formula;
 pub mod holdoff;
 pub mod layer;

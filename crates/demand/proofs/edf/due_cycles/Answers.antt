@@ -10,8 +10,8 @@ use Rattle.demand.proofs.edf.due_cycles.Goals as goal
 more : (c : goal.After-charge) → c.from.result * c.charge.result ≤ longest_span * most_charge
 more c = product_le c.from.result c.charge.result longest_span most_charge (omega (arith, c.jobs-in-jobs.ensures.bound, c.requires.short)) c.charge.ensures.bound
 
-pub overflow-add-sum : goal.overflow-add-sum
-overflow-add-sum c = let h = more c in omega (arith, c.jobs.invariant.0)
+pub overflow_add-sum : goal.overflow_add-sum
+overflow_add-sum c = let h = more c in omega (arith, c.jobs.invariant.0)
 
 pub jobs-preserved : goal.jobs-preserved
 jobs-preserved c =

@@ -8,19 +8,19 @@ pub periods-init : goal.periods-init
 unfolding hyper
 periods-init c = (refl, omega arith)
 
-pub common-multiple-requires : goal.common-multiple-requires
-common-multiple-requires c =
+pub common_multiple-requires : goal.common_multiple-requires
+common_multiple-requires c =
     let ts = take c.periods.task-index c.args.tasks.now in
     omega (arith, c.periods.invariant.0, hyper_positive (periods ts) (periods_positive ts))
 
-pub returns-in-err-hyper : goal.returns-in-err-hyper
-returns-in-err-hyper c =
+pub returns-in_err-hyper : goal.returns-in_err-hyper
+returns-in_err-hyper c =
     let ts = c.args.tasks.now in
     let i = c.periods.task-index in
     let x = c.task-item.result in
     let n = hyper_next ts i x (omega arith) c.task-item.is in
     let e : lcm c.periods.hyper x.period ≡ lcm (hyper (periods (take i ts))) x.period = ap (λ h. lcm h x.period) c.periods.invariant.0 in
-    let over = none_within (lcm c.periods.hyper x.period) c.in-err-hyper.ensures in
+    let over = none_within (lcm c.periods.hyper x.period) c.in_err-hyper.ensures in
     record {
       value = c.from-residual.ensures ∙ sym (within_none (hyper (periods ts)) (omega (arith, n, e, over, hyper_front ts (i + 1))));
       least = hyper_is_least (periods ts) (periods_positive ts);
@@ -33,7 +33,7 @@ periods-preserved c =
     let x = c.task-item.result in
     let n = hyper_next ts i x (omega arith) c.task-item.is in
     let e : lcm c.periods.hyper x.period ≡ lcm (hyper (periods (take i ts))) x.period = ap (λ h. lcm h x.period) c.periods.invariant.0 in
-    let w = some_within (lcm c.periods.hyper x.period) c.in-ok-hyper.hyper c.in-ok-hyper.ensures in
+    let w = some_within (lcm c.periods.hyper x.period) c.in_ok-hyper.hyper c.in_ok-hyper.ensures in
     (w.0 ∙ e ∙ sym n, omega (arith, w.0, w.1))
 
 pub returns : goal.returns

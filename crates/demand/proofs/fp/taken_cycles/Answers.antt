@@ -9,8 +9,8 @@ pub above-init : goal.above-init
 unfolding total
 above-init c = (omega (arith, c.charge-sum.ensures.bound), c.charge-sum.ensures.value ∙ omega arith)
 
-pub overflow-add-sum : goal.overflow-add-sum
-overflow-add-sum c = omega (arith, c.above.invariant.0, c.taken-sum.ensures.bound)
+pub overflow_add-sum : goal.overflow_add-sum
+overflow_add-sum c = omega (arith, c.above.invariant.0, c.taken-sum.ensures.bound)
 
 pub above-preserved : goal.above-preserved
 above-preserved c =

@@ -3,8 +3,8 @@ use Rattle.std.proofs.lemmas.Bool.{eqb-false}
 use Rattle.input.proofs.Digits.{one_more, ten_digits, digit_at, spelled_more, digits_more, spelled_all, digits_all}
 use Rattle.input.proofs.figure.figure.Goals as goal
 
-pub overflow-mul-value : goal.overflow-mul-value
-overflow-mul-value c = omega (arith, ten_digits c.digits.value c.digits.byte-index c.digits.invariant.0 (omega arith))
+pub overflow_mul-value : goal.overflow_mul-value
+overflow_mul-value c = omega (arith, ten_digits c.digits.value c.digits.byte-index c.digits.invariant.0 (omega arith))
 
 pub digits-preserved : goal.digits-preserved
 digits-preserved c = (
@@ -13,11 +13,11 @@ digits-preserved c = (
   digits_more c.args.text.now c.digits.byte-index (omega arith) c.digits.invariant.2 (omega arith) (omega arith),
 )
 
-pub returns-in-default : goal.returns-in-default
-returns-in-default c v h = let d = digit_at c.args.text.now c.digits.byte-index h.digits (omega arith) in omega arith
+pub returns-in_default : goal.returns-in_default
+returns-in_default c v h = let d = digit_at c.args.text.now c.digits.byte-index h.digits (omega arith) in omega arith
 
-pub returns-in-default·2 : goal.returns-in-default·2
-returns-in-default·2 c v h = let d = digit_at c.args.text.now c.digits.byte-index h.digits (omega arith) in omega arith
+pub returns-in_default·2 : goal.returns-in_default·2
+returns-in_default·2 c v h = let d = digit_at c.args.text.now c.digits.byte-index h.digits (omega arith) in omega arith
 
 pub returns-then-value-from : goal.returns-then-value-from
 returns-then-value-from c v h =
@@ -26,7 +26,7 @@ returns-then-value-from c v h =
 
 pub returns : goal.returns
 returns c = record {
-  some = omega (arith, eqb-false (length c.args.text.now) 0 (sym c.if-is-empty.ensures));
+  some = omega (arith, eqb-false (length c.args.text.now) 0 (sym c.if-is_empty.ensures));
   few = omega arith;
   digits = digits_all c.args.text.now c.digits.byte-index (omega arith) c.digits.invariant.2;
   value_is = spelled_all c.args.text.now c.digits.byte-index c.digits.value (omega arith) c.digits.invariant.1;

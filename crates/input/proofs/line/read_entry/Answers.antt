@@ -4,7 +4,7 @@ use Rattle.input.proofs.line.read_entry.Goals as goal
 
 pub returns-then-line-width : goal.returns-then-line-width
 returns-then-line-width c = record {
-  reads = miscounted c.in-ok-line.line c.in-ok-line.ensures.reads (λ k. c.if-line-width.true (k ∙ sym c.width.ensures)) c.fault.ensures;
+  reads = miscounted c.in_ok-line.line c.in_ok-line.ensures.reads (λ k. c.if-line-width.true (k ∙ sym c.width.ensures)) c.fault.ensures;
   forward = tt;
   within = tt;
 }

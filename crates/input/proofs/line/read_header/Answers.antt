@@ -2,12 +2,12 @@ use Rattle.std.proofs.Common.{sym, subst, arith}
 use Rattle.input.specs.Headers.{Heads, differs}
 use Rattle.input.proofs.line.read_header.Goals as goal
 
-pub returns-then-not-is-header : goal.returns-then-not-is-header
-returns-then-not-is-header c =
-    let h = c.in-ok-line.ensures.reads in
+pub returns-then-not-is_header : goal.returns-then-not-is_header
+returns-then-not-is_header c =
+    let h = c.in_ok-line.ensures.reads in
     record {
-      reads = differs c.in-ok-line.line (omega arith) h
-          (λ k. c.if-not-is-header.ensures (subst (λ s. Heads s c.args.file.now c.in-ok-line.line.record) (sym h.0) k))
+      reads = differs c.in_ok-line.line (omega arith) h
+          (λ k. c.if-not-is_header.ensures (subst (λ s. Heads s c.args.file.now c.in_ok-line.line.record) (sym h.0) k))
           c.fault.ensures;
       short = tt;
       within = tt;

@@ -11,43 +11,43 @@ use Rattle.input.proofs.processor_file.read_processor.Goals as goal
 at_first : (F : List ℕ) (at : ℕ) (ms : List Mode) (ss : List Switch) (ps : List ℕ) → ms ≡ [] → ss ≡ [] → ps ≡ [] → HeaderIn F Processor (Ok at) → EntriesUpTo F 0 at ms ss ps
 at_first F at ms ss ps p q r h = rw (p, q, r) (header h)
 
-pub returns-in-err-at : goal.returns-in-err-at
-returns-in-err-at c =
+pub returns-in_err-at : goal.returns-in_err-at
+returns-in_err-at c =
     let p = err_from_is_err_and c.from-residual.result c.from-residual.ensures.1 in
-    rw (p.1, p.2) (in_header c.in-err-at.ensures.reads)
+    rw (p.1, p.2) (in_header c.in_err-at.ensures.reads)
 
 pub records-init : goal.records-init
 records-init c = (
   omega arith,
-  c.in-ok-at.ensures.within,
-  c.in-ok-at.ensures.short,
-  at_first _ _ _ _ _ c.in-ok-table.ensures.modes c.in-ok-table.ensures.switches c.in-ok-table.ensures.frames c.in-ok-at.ensures.reads,
+  c.in_ok-at.ensures.within,
+  c.in_ok-at.ensures.short,
+  at_first _ _ _ _ _ c.in_ok-table.ensures.modes c.in_ok-table.ensures.switches c.in_ok-table.ensures.frames c.in_ok-at.ensures.reads,
 )
 
-pub returns-in-err-line : goal.returns-in-err-line
-returns-in-err-line c =
-    let p = err_from_is_err_and c.from-residual-in-err-line.result c.from-residual-in-err-line.ensures.1 in
-    rw (p.1, p.2) (in_record c.records.invariant.3 c.records-test.true c.in-err-line.ensures.reads)
+pub returns-in_err-line : goal.returns-in_err-line
+returns-in_err-line c =
+    let p = err_from_is_err_and c.from-residual-in_err-line.result c.from-residual-in_err-line.ensures.1 in
+    rw (p.1, p.2) (in_record c.records.invariant.3 c.records-test.true c.in_err-line.ensures.reads)
 
-pub returns-in-err-entry : goal.returns-in-err-entry
-returns-in-err-entry c =
-    let p = err_from_is_err_and c.from-residual-in-err-entry.result c.from-residual-in-err-entry.ensures.1 in
+pub returns-in_err-entry : goal.returns-in_err-entry
+returns-in_err-entry c =
+    let p = err_from_is_err_and c.from-residual-in_err-entry.result c.from-residual-in_err-entry.ensures.1 in
     rw (p.1, p.2)
-    (in_field c.in-ok-line.line c.records.invariant.3 c.records-test.true c.in-ok-line.ensures.reads c.in-err-entry.ensures)
+    (in_field c.in_ok-line.line c.records.invariant.3 c.records-test.true c.in_ok-line.ensures.reads c.in_err-entry.ensures)
 
-pub returns-in-err-list : goal.returns-in-err-list
-returns-in-err-list c =
-    let p = err_from_is_err_and c.from-residual-in-err-list.result c.from-residual-in-err-list.ensures.1 in
+pub returns-in_err-list : goal.returns-in_err-list
+returns-in_err-list c =
+    let p = err_from_is_err_and c.from-residual-in_err-list.result c.from-residual-in_err-list.ensures.1 in
     rw (p.1, p.2)
-    (in_table c.in-ok-line.line c.in-ok-entry.entry c.records.invariant.3 c.records-test.true c.in-ok-line.ensures.reads c.in-ok-entry.ensures c.in-err-list.ensures.answer)
+    (in_table c.in_ok-line.line c.in_ok-entry.entry c.records.invariant.3 c.records-test.true c.in_ok-line.ensures.reads c.in_ok-entry.ensures c.in_err-list.ensures.answer)
 
 pub records-preserved : goal.records-preserved
 records-preserved c = (
   search rules,
   search rules,
   c.records.invariant.2,
-  entry c.in-ok-line.line c.in-ok-entry.entry c.records.invariant.3 c.records-test.true c.in-ok-line.ensures.reads c.in-ok-entry.ensures c.in-ok-list.ensures.answer c.in-ok-list.ensures.entered,
+  entry c.in_ok-line.line c.in_ok-entry.entry c.records.invariant.3 c.records-test.true c.in_ok-line.ensures.reads c.in_ok-entry.ensures c.in_ok-list.ensures.answer c.in_ok-list.ensures.entered,
 )
 
 pub returns : goal.returns
-returns c = no_mode c.records.invariant.3 (omega arith) (omega (arith, ltb-false _ _ (sym c.if-has-mode.ensures))) refl
+returns c = no_mode c.records.invariant.3 (omega arith) (omega (arith, ltb-false _ _ (sym c.if-has_mode.ensures))) refl

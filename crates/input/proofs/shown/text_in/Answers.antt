@@ -3,8 +3,8 @@ use Rattle.input.proofs.shown.text_in.Goals as goal
 
 pub returns-in-NotCsv : goal.returns-in-NotCsv
 returns-in-NotCsv c =
-    shows_broken (λ x. x.now) c.args.file.now c.args.fault.now.cause c.args.fault.now.record c.in-Some.at c.args.fault.now.field c.broken-text.result c.in-NotCsv.is c.in-Some.ensures c.broken-text.ensures
+    shows_broken (λ x. x.now) c.args.file.now c.args.fault.now.cause c.args.fault.now.record c.in-Some.at c.args.fault.now.field c.broken_text.result c.in-NotCsv.is c.in-Some.ensures c.broken_text.ensures
 
-pub returns-in-default-cause : goal.returns-in-default-cause
-returns-in-default-cause c =
-    shows_field (λ x. x.now) c.args.file.now c.args.fault.now.cause c.args.fault.now.record c.in-Some.at c.args.fault.now.field c.field-text.result c.in-default-cause.not-NotCsv c.in-Some.ensures c.field-text.ensures
+pub returns-in_default-cause : goal.returns-in_default-cause
+returns-in_default-cause c =
+    shows_field (λ x. x.now) c.args.file.now c.args.fault.now.cause c.args.fault.now.record c.in-Some.at c.args.fault.now.field c.field_text.result c.in_default-cause.not-NotCsv c.in-Some.ensures c.field_text.ensures

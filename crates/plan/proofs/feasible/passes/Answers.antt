@@ -30,12 +30,12 @@ points-preserved g c =
           (g.met.Q.Policy.early c.args.policy.now (vec_items c.args.set.now.tasks) (the_set c.args.set.now) sp (peak c.args.drive.now) c.groups.group c.points.index i),
     )
 
-pub returns-in-default : goal.returns-in-default
-returns-in-default g c =
+pub returns-in_default : goal.returns-in_default
+returns-in_default g c =
     λ sp.
     let gs = g.Q.Policy.groups c.args.policy.now (charges (peak c.args.drive.now) (vec_items c.args.set.now.tasks)) in
     let n : length (get_or gs c.groups.group []) ≤ c.points.index =
-    beyond _ _ (point gs c.groups.group c.points.index) c.point.result c.in-default.is c.point.ensures.within in
+    beyond _ _ (point gs c.groups.group c.points.index) c.point.result c.in_default.is c.point.ensures.within in
     let x = g.met.Q.Policy.exact c.args.policy.now (vec_items c.args.set.now.tasks) (the_set c.args.set.now) sp (peak c.args.drive.now) (g.P.Platform.supply c.args.platform.now c.args.drive.now) (g.met.P.Platform.lawful c.args.platform.now c.args.drive.now) in (
       (λ e.
           let z = eqb-true c.points.index 0 e in

@@ -6,7 +6,7 @@ use Rattle.plan.proofs.search.better_above.Goals as goal
 
 pub high-preserved : goal.high-preserved
 high-preserved g c =
-    λ sp. improves_next (Feasible (g.P.Platform.supply c.args.platform.now) (g.Q.Policy.full c.args.policy.now) (vec_items c.args.set.now.tasks)) (PairAt c.args.processor.now c.args.frame c.args.low) c.high.high c.args.best c.high.found c.better-pair-found.result (c.high.invariant sp) (c.better-pair-found.ensures sp)
+    λ sp. improves_next (Feasible (g.P.Platform.supply c.args.platform.now) (g.Q.Policy.full c.args.policy.now) (vec_items c.args.set.now.tasks)) (PairAt c.args.processor.now c.args.frame c.args.low) c.high.high c.args.best c.high.found c.better_pair-found.result (c.high.invariant sp) (c.better_pair-found.ensures sp)
 
 pub returns : goal.returns
 returns g c =

@@ -6,7 +6,7 @@ use Rattle.plan.proofs.search.better_frame.Goals as goal
 
 pub low-preserved : goal.low-preserved
 low-preserved g c =
-    λ sp. improves_next (Feasible (g.P.Platform.supply c.args.platform.now) (g.Q.Policy.full c.args.policy.now) (vec_items c.args.set.now.tasks)) (λ k. Below (PairAt c.args.processor.now c.args.frame k) 17) c.low.low c.args.best c.low.found c.better-above-found.result (c.low.invariant sp) (c.better-above-found.ensures sp)
+    λ sp. improves_next (Feasible (g.P.Platform.supply c.args.platform.now) (g.Q.Policy.full c.args.policy.now) (vec_items c.args.set.now.tasks)) (λ k. Below (PairAt c.args.processor.now c.args.frame k) 17) c.low.low c.args.best c.low.found c.better_above-found.result (c.low.invariant sp) (c.better_above-found.ensures sp)
 
 pub returns : goal.returns
 returns g c =

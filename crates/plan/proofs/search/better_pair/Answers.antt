@@ -12,4 +12,4 @@ returns-in-Some g c =
     improves_same (Feasible (g.P.Platform.supply c.args.platform.now) (g.Q.Policy.full c.args.policy.now) (vec_items c.args.set.now.tasks)) (SplitIn c.in-Some.splits) (PairAt c.args.processor.now c.args.frame c.args.low c.args.high)
     (pair_to c.args.processor.now c.args.frame c.args.low c.args.high c.in-Some.splits s.0 s.1)
     (pair_from c.args.processor.now c.args.frame c.args.low c.args.high c.in-Some.splits s.0 s.1)
-    c.args.best c.cheapest-split.result (c.cheapest-split.ensures sp)
+    c.args.best c.cheapest_split.result (c.cheapest_split.ensures sp)

@@ -6,7 +6,7 @@ use Rattle.plan.proofs.search.cheapest_fixed.Goals as goal
 
 pub modes-preserved : goal.modes-preserved
 modes-preserved g c =
-    λ sp. improves_next (Feasible (g.P.Platform.supply c.args.platform.now) (g.Q.Policy.full c.args.policy.now) (vec_items c.args.set.now.tasks)) (FixedAt c.args.processor.now) c.modes.number None c.modes.best c.better-fixed-best.result (c.modes.invariant sp) (c.better-fixed-best.ensures sp)
+    λ sp. improves_next (Feasible (g.P.Platform.supply c.args.platform.now) (g.Q.Policy.full c.args.policy.now) (vec_items c.args.set.now.tasks)) (FixedAt c.args.processor.now) c.modes.number None c.modes.best c.better_fixed-best.result (c.modes.invariant sp) (c.better_fixed-best.ensures sp)
 
 pub returns : goal.returns
 returns g c =

@@ -5,18 +5,18 @@ use Rattle.processor.specs.declared.drive.Pair.{Pair}
 use Rattle.plan.proofs.Along.{stays, takes, ends, dearer, cheaper, split_same}
 use Rattle.plan.proofs.search.cheapest_split.Goals as goal
 
-pub returns-then-not-is-cheaper : goal.returns-then-not-is-cheaper
-returns-then-not-is-cheaper g c =
+pub returns-then-not-is_cheaper : goal.returns-then-not-is_cheaper
+returns-then-not-is_cheaper g c =
     λ sp.
     stays c.args.splits.now (Feasible (g.P.Platform.supply c.args.platform.now) (g.Q.Policy.full c.args.policy.now) (vec_items c.args.set.now.tasks)) c.splits.number (c.splits.invariant sp) c.in-Some.pair c.in-Some.ensures c.args.best
-    (dearer (Turns c.in-Some.pair) c.args.best c.if-not-is-cheaper.ensures)
+    (dearer (Turns c.in-Some.pair) c.args.best c.if-not-is_cheaper.ensures)
 
 pub returns-then-passes : goal.returns-then-passes
 returns-then-passes g c =
     λ sp.
     takes c.args.splits.now (Feasible (g.P.Platform.supply c.args.platform.now) (g.Q.Policy.full c.args.policy.now) (vec_items c.args.set.now.tasks)) c.splits.number (c.splits.invariant sp) c.in-Some.pair
     (omega (arith, c.count-number-end.ensures)) c.in-Some.ensures ((c.if-passes.ensures sp).0 refl) c.args.best
-    (cheaper (Turns c.in-Some.pair) c.args.best c.if-not-is-cheaper.ensures)
+    (cheaper (Turns c.in-Some.pair) c.args.best c.if-not-is_cheaper.ensures)
 
 pub splits-preserved : goal.splits-preserved
 splits-preserved g c =

@@ -8,14 +8,14 @@ use Rattle.report.proofs.place.put_after_commas.Goals as goal
 pub numbers-init : goal.numbers-init
 numbers-init c = put_none c.args.buffer.now c.args.at (omega arith)
 
-pub put-text-comma-requires : goal.put-text-comma-requires
-put-text-comma-requires c =
+pub put_text-comma-requires : goal.put_text-comma-requires
+put_text-comma-requires c =
     let e = length_more c.args.numbers.now c.numbers.n-index (omega arith) in
     let f = length_front c.args.numbers.now (c.numbers.n-index + 1) in
     omega arith
 
-pub put-number-end-requires : goal.put-number-end-requires
-put-number-end-requires c =
+pub put_number-end-requires : goal.put_number-end-requires
+put_number-end-requires c =
     let e = length_more c.args.numbers.now c.numbers.n-index (omega arith) in
     let f = length_front c.args.numbers.now (c.numbers.n-index + 1) in
     omega arith
@@ -24,11 +24,11 @@ pub numbers-preserved : goal.numbers-preserved
 numbers-preserved c =
     let ns : List ℕ = c.args.numbers.now in
     let done : List ℕ = after_commas (take c.numbers.n-index ns) in
-    let comma = put_more c.args.buffer.now c.numbers.buffer c.put-text-comma.new.buffer c.args.at c.numbers.end c.put-text-comma.result done (codes ",")
-    (omega arith) c.numbers.invariant c.put-text-comma.ensures in
-    let number = put_more c.args.buffer.now c.put-text-comma.new.buffer c.put-number-end.new.buffer c.args.at c.put-text-comma.result c.put-number-end.result
-    (done ++ codes ",") (decimal (get_or ns c.numbers.n-index 0)) (omega arith) comma c.put-number-end.ensures in
-    let P : List ℕ → Type 0 = λ t. Put c.args.buffer.now c.put-number-end.new.buffer c.args.at t c.put-number-end.result in
+    let comma = put_more c.args.buffer.now c.numbers.buffer c.put_text-comma.new.buffer c.args.at c.numbers.end c.put_text-comma.result done (codes ",")
+    (omega arith) c.numbers.invariant c.put_text-comma.ensures in
+    let number = put_more c.args.buffer.now c.put_text-comma.new.buffer c.put_number-end.new.buffer c.args.at c.put_text-comma.result c.put_number-end.result
+    (done ++ codes ",") (decimal (get_or ns c.numbers.n-index 0)) (omega arith) comma c.put_number-end.ensures in
+    let P : List ℕ → Type 0 = λ t. Put c.args.buffer.now c.put_number-end.new.buffer c.args.at t c.put_number-end.result in
     subst P (sym (after_commas_more ns c.numbers.n-index (omega arith))) number
 
 pub returns : goal.returns

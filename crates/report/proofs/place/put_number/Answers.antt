@@ -7,6 +7,6 @@ pub returns : goal.returns
 returns c = (
   omega arith,
   omega arith,
-  placed_end c.args.at c.write-number.result c.args.buffer.now c.write-number.new.out _ (decimal c.args.n) (omega arith)
-      (take_rest c.args.buffer.now c.args.at) c.write-number.ensures.0 c.write-number.ensures.1,
+  placed_end c.args.at c.write_number.result c.args.buffer.now c.write_number.new.out _ (decimal c.args.n) (omega arith)
+      (take_rest c.args.buffer.now c.args.at) c.write_number.ensures.0 c.write_number.ensures.1,
 )

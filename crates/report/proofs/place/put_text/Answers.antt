@@ -6,5 +6,5 @@ pub returns : goal.returns
 returns c = (
   refl,
   omega arith,
-  placed_mid c.args.at _ c.args.buffer.now c.copy-from-slice.new.self c.args.text.now c.copy-from-slice.ensures.after (omega arith),
+  placed_mid c.args.at _ c.args.buffer.now c.copy_from_slice.new.self c.args.text.now c.copy_from_slice.ensures.after (omega arith),
 )

@@ -2,8 +2,8 @@ use Rattle.std.proofs.Common.{arith}
 use Rattle.report.proofs.Numbers.{width_step, width_one, width_most}
 use Rattle.report.proofs.place.width.Goals as goal
 
-pub overflow-add-len : goal.overflow-add-len
-overflow-add-len c = let s = width_most c.args.n (omega arith) in omega arith
+pub overflow_add-len : goal.overflow_add-len
+overflow_add-len c = let s = width_most c.args.n (omega arith) in omega arith
 
 pub digits-preserved : goal.digits-preserved
 digits-preserved c = let s = width_step c.digits.left c.digits-test.true (omega arith) in (omega arith, omega arith)

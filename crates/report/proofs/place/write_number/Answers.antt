@@ -3,8 +3,8 @@ use Rattle.report.proofs.Numbers.{width_step, digit_before, digit_first}
 use Rattle.std.proofs.lemmas.Fmt.{decimal_nonempty}
 use Rattle.report.proofs.place.write_number.Goals as goal
 
-pub overflow-sub-at : goal.overflow-sub-at
-overflow-sub-at c = let s = decimal_nonempty c.digits.left (omega arith) in omega arith
+pub overflow_sub-at : goal.overflow_sub-at
+overflow_sub-at c = let s = decimal_nonempty c.digits.left (omega arith) in omega arith
 
 pub bounds-out-at : goal.bounds-out-at
 bounds-out-at c = let s = decimal_nonempty c.digits.left (omega arith) in omega arith

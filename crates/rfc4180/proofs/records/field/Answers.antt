@@ -39,24 +39,24 @@ skipped-preserved c = (
   ),
 )
 
-pub returns-in-Ok-read-field : goal.returns-in-Ok-read-field
-returns-in-Ok-read-field c = record {
-  finds = numbered c.args.file.now c.min-start.result (min c.args.record.now.start (length c.args.file.now)) c.skipped.invariant.1.0 c.skipped.from c.args.number c.in-Ok-read-field.found
+pub returns-in-Ok-read_field : goal.returns-in-Ok-read_field
+returns-in-Ok-read_field c = record {
+  finds = numbered c.args.file.now c.min-start.result (min c.args.record.now.start (length c.args.file.now)) c.skipped.invariant.1.0 c.skipped.from c.args.number c.in-Ok-read_field.found
       c.min-start.ensures
       c.skipped.invariant.0
       c.skipped.invariant.1.2
-      c.in-Ok-read-field.ensures
+      c.in-Ok-read_field.ensures
       (omega (arith, c.skipped.invariant.1.1));
   within = search rules;
 }
 
-pub returns-in-Err-read-field : goal.returns-in-Err-read-field
-returns-in-Err-read-field c = record {
-  finds = missing_broken c.args.file.now c.min-start.result (min c.args.record.now.start (length c.args.file.now)) c.skipped.invariant.1.0 c.skipped.from c.args.number c.in-Err-read-field.field-0
+pub returns-in-Err-read_field : goal.returns-in-Err-read_field
+returns-in-Err-read_field c = record {
+  finds = missing_broken c.args.file.now c.min-start.result (min c.args.record.now.start (length c.args.file.now)) c.skipped.invariant.1.0 c.skipped.from c.args.number c.in-Err-read_field.field-0
       c.min-start.ensures
       c.skipped.invariant.0
       c.skipped.invariant.1.2
-      c.in-Err-read-field.ensures
+      c.in-Err-read_field.ensures
       (omega (arith, c.skipped.invariant.1.1));
   within = tt;
 }

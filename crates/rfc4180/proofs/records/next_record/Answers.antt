@@ -16,6 +16,6 @@ fields-preserved c =
       (
         n + 1,
         before_more c.args.file.now c.min-start.result n c.fields.from c.in-Ok.found c.fields.invariant.2 c.fields.invariant.3.1 f c.in-Comma.is,
-        count_more n c.fields.fields c.saturating-add-fields.result c.fields.invariant.3.2 c.saturating-add-fields.ensures,
+        count_more n c.fields.fields c.saturating_add-fields.result c.fields.invariant.3.2 c.saturating_add-fields.ensures,
       ),
     )

@@ -9,5 +9,5 @@ pub text-preserved : goal.text-preserved
 text-preserved c = (
   omega arith,
   omega arith,
-  plain_more c.args.file.now c.args.at c.text.end c.text.invariant.0 c.text-test.true c.text.invariant.2 c.if-is-text.ensures,
+  plain_more c.args.file.now c.args.at c.text.end c.text.invariant.0 c.text-test.true c.text.invariant.2 c.if-is_text.ensures,
 )

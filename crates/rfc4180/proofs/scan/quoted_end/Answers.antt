@@ -5,11 +5,11 @@ use Rattle.rfc4180.proofs.scan.quoted_end.Goals as goal
 pub quoted-init : goal.quoted-init
 quoted-init c = (omega arith, omega arith, quoted_none c.args.file.now c.args.at)
 
-pub quoted-preserved-then-is-quotable : goal.quoted-preserved-then-is-quotable
-quoted-preserved-then-is-quotable c = (
+pub quoted-preserved-then-is_quotable : goal.quoted-preserved-then-is_quotable
+quoted-preserved-then-is_quotable c = (
   omega arith,
   omega arith,
-  quoted_more c.args.file.now c.args.at c.quoted.end c.quoted.invariant.0 c.quoted-test.true c.quoted.invariant.2 c.if-is-quotable.ensures,
+  quoted_more c.args.file.now c.args.at c.quoted.end c.quoted.invariant.0 c.quoted-test.true c.quoted.invariant.2 c.if-is_quotable.ensures,
 )
 
 pub quoted-preserved : goal.quoted-preserved

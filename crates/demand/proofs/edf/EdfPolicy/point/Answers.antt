@@ -17,40 +17,40 @@ returns-then-index-gt0 c =
     let G = get_or (edf_groups cs) c.args.group [] in
     record { within = place_within G c.args.index None e; beyond = place_beyond G c.args.index None e }
 
-pub returns-in-err-hyper : goal.returns-in-err-hyper
-returns-in-err-hyper c =
+pub returns-in_err-hyper : goal.returns-in_err-hyper
+returns-in_err-hyper c =
     let top = peak c.args.drive.now in
     let ts = vec_items c.args.set.now.tasks in
     let P : List Task → Type 0 = λ us. None ≡ within_span (hyper (periods us)) in
-    let n = subst P c.tasks-tasks.ensures.value c.in-err-hyper.ensures.value in
+    let n = subst P c.tasks-tasks.ensures.value c.in_err-hyper.ensures.value in
     let e = c.from-residual.ensures ∙ edf_outside top ts c.args.group c.args.index n in
     let G = get_or (edf_groups (charges top ts)) c.args.group [] in
     record { within = place_within G c.args.index c.from-residual.result e; beyond = place_beyond G c.args.index c.from-residual.result e }
 
-pub returns-in-err-time : goal.returns-in-err-time
-returns-in-err-time c =
+pub returns-in_err-time : goal.returns-in_err-time
+returns-in_err-time c =
     let top = peak c.args.drive.now in
     let ts = vec_items c.args.set.now.tasks in
-    let h = c.in-ok-hyper.hyper in
+    let h = c.in_ok-hyper.hyper in
     let P : List Task → Type 0 = λ us. Some h ≡ within_span (hyper (periods us)) in
-    let s = subst P c.tasks-tasks.ensures.value c.in-ok-hyper.ensures.value in
+    let s = subst P c.tasks-tasks.ensures.value c.in_ok-hyper.ensures.value in
     let Q : List Task → Type 0 = λ us. None ≡ slice_get (edf_times (charges top us) h) c.args.group in
-    let n = subst Q c.tasks-tasks.ensures.value (c.in-err-time.ensures.place top) in
-    let e = c.from-residual-in-err-time.ensures ∙ edf_no_time top ts c.args.group c.args.index h s n in
+    let n = subst Q c.tasks-tasks.ensures.value (c.in_err-time.ensures.place top) in
+    let e = c.from-residual-in_err-time.ensures ∙ edf_no_time top ts c.args.group c.args.index h s n in
     let G = get_or (edf_groups (charges top ts)) c.args.group [] in
-    record { within = place_within G c.args.index c.from-residual-in-err-time.result e; beyond = place_beyond G c.args.index c.from-residual-in-err-time.result e }
+    record { within = place_within G c.args.index c.from-residual-in_err-time.result e; beyond = place_beyond G c.args.index c.from-residual-in_err-time.result e }
 
 pub returns : goal.returns
 returns c =
     let top = peak c.args.drive.now in
     let ts = vec_items c.args.set.now.tasks in
-    let h = c.in-ok-hyper.hyper in
-    let t = c.in-ok-time.time in
+    let h = c.in_ok-hyper.hyper in
+    let t = c.in_ok-time.time in
     let w = c.due_cycles.result in
     let P : List Task → Type 0 = λ us. Some h ≡ within_span (hyper (periods us)) in
-    let s = subst P c.tasks-tasks.ensures.value c.in-ok-hyper.ensures.value in
+    let s = subst P c.tasks-tasks.ensures.value c.in_ok-hyper.ensures.value in
     let Q : List Task → Type 0 = λ us. Some t ≡ slice_get (edf_times (charges top us) h) c.args.group in
-    let n = subst Q c.tasks-tasks.ensures.value (c.in-ok-time.ensures.place top) in
+    let n = subst Q c.tasks-tasks.ensures.value (c.in_ok-time.ensures.place top) in
     let R : List Task → Type 0 = λ us. w ≡ demand (charges top us) t in
     let d = subst R c.tasks-tasks.ensures.value c.due_cycles.ensures in
     let e = edf_point top ts c.args.group c.args.index h s t w n d (omega arith) in

@@ -8,36 +8,36 @@ use Rattle.demand.proofs.Places.{place_within, place_beyond}
 use Rattle.demand.proofs.Groups.{fp_no_task, fp_no_time, fp_point}
 use Rattle.demand.proofs.fp.FpPolicy.point.Goals as goal
 
-pub returns-in-err-task : goal.returns-in-err-task
-returns-in-err-task c =
+pub returns-in_err-task : goal.returns-in_err-task
+returns-in_err-task c =
     let top = peak c.args.drive.now in
     let ts = vec_items c.args.set.now.tasks in
     let l = ap length c.tasks-tasks.ensures.value in
-    let past = c.in-err-task.ensures.lookup.3 in
+    let past = c.in_err-task.ensures.lookup.3 in
     let e = c.from-residual.ensures ∙ fp_no_task top ts c.args.group c.args.index (omega (arith, l, past)) in
     let G = get_or (fp_groups (charges top ts)) c.args.group [] in
     record { within = place_within G c.args.index c.from-residual.result e; beyond = place_beyond G c.args.index c.from-residual.result e }
 
-pub returns-in-err-time : goal.returns-in-err-time
-returns-in-err-time c =
+pub returns-in_err-time : goal.returns-in_err-time
+returns-in_err-time c =
     let top = peak c.args.drive.now in
     let g = c.args.group in
-    let f = c.in-ok-task.ensures.lookup in
+    let f = c.in_ok-task.ensures.lookup in
     let P : List Task → Type 0 = λ us. None ≡ slice_get (get_or (fp_groups (charges top us)) g []) c.args.index in
-    let n = fp_no_time top c.tasks-tasks.result.now g c.args.index c.in-ok-task.task.now f.3.0 f.1 (c.in-err-time.ensures.place top) in
-    let e = c.from-residual-in-err-time.ensures ∙ subst P c.tasks-tasks.ensures.value n in
+    let n = fp_no_time top c.tasks-tasks.result.now g c.args.index c.in_ok-task.task.now f.3.0 f.1 (c.in_err-time.ensures.place top) in
+    let e = c.from-residual-in_err-time.ensures ∙ subst P c.tasks-tasks.ensures.value n in
     let G = get_or (fp_groups (charges top (vec_items c.args.set.now.tasks))) g [] in
-    record { within = place_within G c.args.index c.from-residual-in-err-time.result e; beyond = place_beyond G c.args.index c.from-residual-in-err-time.result e }
+    record { within = place_within G c.args.index c.from-residual-in_err-time.result e; beyond = place_beyond G c.args.index c.from-residual-in_err-time.result e }
 
 pub returns : goal.returns
 returns c =
     let top = peak c.args.drive.now in
     let g = c.args.group in
-    let f = c.in-ok-task.ensures.lookup in
-    let u = c.in-ok-time.time in
+    let f = c.in_ok-task.ensures.lookup in
+    let u = c.in_ok-time.time in
     let w = c.taken_cycles.result in
     let P : List Task → Type 0 = λ us. Some (u, w) ≡ slice_get (get_or (fp_groups (charges top us)) g []) c.args.index in
-    let n = fp_point top c.tasks-tasks.result.now g c.args.index c.in-ok-task.task.now f.3.0 f.1 u w (c.in-ok-time.ensures.place top) c.taken_cycles.ensures in
+    let n = fp_point top c.tasks-tasks.result.now g c.args.index c.in_ok-task.task.now f.3.0 f.1 u w (c.in_ok-time.ensures.place top) c.taken_cycles.ensures in
     let e = subst P c.tasks-tasks.ensures.value n in
     let G = get_or (fp_groups (charges top (vec_items c.args.set.now.tasks))) g [] in
     record { within = place_within G c.args.index (Some (u, w)) e; beyond = place_beyond G c.args.index (Some (u, w)) e }

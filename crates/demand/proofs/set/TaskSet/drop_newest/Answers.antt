@@ -3,9 +3,9 @@ use Rattle.demand.specs.Limits.{most_tasks}
 use Rattle.demand.proofs.Sets.{take_apart}
 use Rattle.demand.proofs.set.TaskSet.drop_newest.Goals as goal
 
-pub invariant-of-self : goal.invariant-of-self
-invariant-of-self c =
+pub invariant_of-self : goal.invariant_of-self
+invariant_of-self c =
     let s = c.args.self.now in
     let few : vec_len c.truncate.new.self ≤ most_tasks = omega (arith, c.truncate.ensures.len, s.few) in
     let room : most_tasks ≤ vec_capacity c.truncate.new.self = omega (arith, c.truncate.ensures.capacity, s.room) in
-    (few, (room, (rw c.truncate.ensures.items (take_apart c.saturating-sub-kept.result (vec_items s.tasks) s.apart), tt)))
+    (few, (room, (rw c.truncate.ensures.items (take_apart c.saturating_sub-kept.result (vec_items s.tasks) s.apart), tt)))

@@ -3,8 +3,8 @@ use Rattle.demand.specs.Limits.{most_tasks}
 use Rattle.demand.proofs.Sets.{removed_apart}
 use Rattle.demand.proofs.set.TaskSet.remove.Goals as goal
 
-pub invariant-of-self : goal.invariant-of-self
-invariant-of-self c =
+pub invariant_of-self : goal.invariant_of-self
+invariant_of-self c =
     let s = c.args.self.now in
     let l = s.tasks.ok.0 in
     let few : vec_len c.remove.new.self ≤ most_tasks = omega (arith, c.remove.ensures.len, s.few) in

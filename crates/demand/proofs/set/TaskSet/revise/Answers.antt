@@ -16,8 +16,8 @@ returns-then-i-len c =
       rows = set_beyond (map figures_of ts) c.args.i (with_work c.args.cycles c.args.fixed (get_or (map figures_of ts) c.args.i no_figures)) (omega arith);
     }
 
-pub invariant-of-self : goal.invariant-of-self
-invariant-of-self c =
+pub invariant_of-self : goal.invariant_of-self
+invariant_of-self c =
     let s = c.args.self.now in
     let l = s.tasks.ok.0 in
     let h : c.args.i < length (vec_items s.tasks) = omega arith in

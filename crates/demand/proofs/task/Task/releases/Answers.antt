@@ -11,8 +11,8 @@ value_is c =
 bound : (c : goal.After-from-3) → (c.from.result + c.from-2.result - 1) / c.from-3.result ≤ c.args.window
 bound c = let e = value_is c in let h = releases_le c.args.self.now.period c.args.window (omega (arith, c.args.self.now.due, c.args.self.now.constrained)) in omega arith
 
-pub overflow-cast-result : goal.overflow-cast-result
-overflow-cast-result c = let h = bound c in omega arith
+pub overflow_cast-result : goal.overflow_cast-result
+overflow_cast-result c = let h = bound c in omega arith
 
 pub returns : goal.returns
 returns c = record { value = value_is c; bound = bound c }

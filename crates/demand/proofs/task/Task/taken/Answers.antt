@@ -9,8 +9,8 @@ use Rattle.demand.proofs.task.Task.taken.Goals as goal
 most : (c : goal.After-charge) → c.from.result * c.charge.result ≤ longest_period * most_charge
 most c = product_le c.from.result c.charge.result longest_period most_charge (omega (arith, c.releases.ensures.bound, c.requires)) c.charge.ensures.bound
 
-pub overflow-mul-result : goal.overflow-mul-result
-overflow-mul-result c = let h = most c in omega arith
+pub overflow_mul-result : goal.overflow_mul-result
+overflow_mul-result c = let h = most c in omega arith
 
 pub returns-then-self-rank : goal.returns-then-self-rank
 returns-then-self-rank c =

@@ -17,7 +17,7 @@ unreachable-requires g c =
     let (m, listed) = some_candidate o.processor o.some_mode in
     let S : List Task → Type 0 = λ ts. g.Q.Policy.span c.args.policy ts ≡ true in
     let F : List Task → Type 0 = λ ts. g.Q.Policy.full c.args.policy (charges m.speed ts) (g.P.Platform.supply c.args.platform (Fixed m)) in
-    c.in-default.ensures (subst S (sym e) (g.met.Q.Policy.bare c.args.policy)) (Fixed m) listed
+    c.in_default.ensures (subst S (sym e) (g.met.Q.Policy.bare c.args.policy)) (Fixed m) listed
     (subst F (sym e) (g.met.Q.Policy.idle c.args.policy (g.P.Platform.supply c.args.platform (Fixed m))))
 
 pub returns : goal.returns

@@ -2,10 +2,10 @@ use Rattle.std.proofs.Common.{◌≡◌, [], ◌∷◌, ◌++◌, length, vec_it
 use Rattle.std.proofs.lemmas.Slice.{pushed}
 use Rattle.plan.proofs.table.TaskTable.add.Goals as goal
 
-pub invariant-of-self-2 : goal.invariant-of-self-2
-invariant-of-self-2 c =
+pub invariant_of-self-2 : goal.invariant_of-self-2
+invariant_of-self-2 c =
     let s = c.args.self.now in
-    let e = pushed (c.args.task ∷ []) refl c.in-ok-add.was c.add.ensures.items in
+    let e = pushed (c.args.task ∷ []) refl c.in_ok-add.was c.add.ensures.items in
     let a = ap length e ∙ length-append (vec_items s.set.tasks) (c.args.task ∷ []) in
-    let b = ap length c.push-reserved.ensures.items ∙ length-append (vec_items s.tickets) (c.args.ticket ∷ []) in
-    (omega (arith, s.same), (omega (arith, c.push-reserved.ensures.capacity, s.room), tt))
+    let b = ap length c.push_reserved.ensures.items ∙ length-append (vec_items s.tickets) (c.args.ticket ∷ []) in
+    (omega (arith, s.same), (omega (arith, c.push_reserved.ensures.capacity, s.room), tt))

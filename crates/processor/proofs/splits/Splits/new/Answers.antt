@@ -4,14 +4,14 @@ use Rattle.processor.specs.Limits.{top_speed, longest_switch}
 use Rattle.processor.proofs.Products.{product_le}
 use Rattle.processor.proofs.splits.Splits.new.Goals as goal
 
-pub overflow-add-loss : goal.overflow-add-loss
-overflow-add-loss c =
+pub overflow_add-loss : goal.overflow_add-loss
+overflow_add-loss c =
     let a = product_le c.args.low.speed c.args.down top_speed longest_switch c.args.low.slow (omega arith) in
     let b = product_le c.args.high.speed c.args.up top_speed longest_switch c.args.high.slow (omega arith) in
     omega arith
 
-pub overflow-add-least : goal.overflow-add-least
-overflow-add-least c =
+pub overflow_add-least : goal.overflow_add-least
+overflow_add-least c =
     let a = product_le c.args.low.speed c.args.down top_speed longest_switch c.args.low.slow (omega arith) in
     let b = product_le c.args.high.speed c.args.up top_speed longest_switch c.args.high.slow (omega arith) in
     let d = div-le_self (c.args.low.speed * c.args.down + c.args.high.speed * c.args.up) (c.args.high.speed - c.args.low.speed) in

@@ -3,8 +3,8 @@ use Rattle.processor.proofs.Gains.{gains}
 use Rattle.processor.proofs.Intervals.{pays}
 use Rattle.processor.proofs.splits.Splits.with_high_time.Goals as goal
 
-pub invariant-of-result : goal.invariant-of-result
-invariant-of-result c =
+pub invariant_of-result : goal.invariant_of-result
+invariant_of-result c =
     let s = c.args.self.now in
     let q = c.args.high_time in
     let g = gains s.low.speed s.high.speed s.down s.up s.frame q s.faster (omega (arith, s.last))

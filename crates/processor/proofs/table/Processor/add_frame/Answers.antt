@@ -5,12 +5,12 @@ use Rattle.processor.proofs.Growth.{frames_more, fits_frame}
 use Rattle.processor.proofs.Pigeons.{all_push}
 use Rattle.processor.proofs.table.Processor.add_frame.Goals as goal
 
-pub invariant-of-self : goal.invariant-of-self
-invariant-of-self c =
+pub invariant_of-self : goal.invariant_of-self
+invariant_of-self c =
     let s = c.args.self.now in
     let D : List ℕ → Type 0 = λ ps. frames_differ ps ≡ true in
     let F : List ℕ → Type 0 = λ ps. all frame_fits ps ≡ true in
-    let i = sym c.push-reserved.ensures.items in (
+    let i = sym c.push_reserved.ensures.items in (
       s.modes_room,
       (
         s.modes_apart,
@@ -21,11 +21,11 @@ invariant-of-self c =
             (
               s.switches_between,
               (
-                omega (arith, c.push-reserved.ensures.capacity, s.frames_room),
+                omega (arith, c.push_reserved.ensures.capacity, s.frames_room),
                 (
-                  omega (arith, c.push-reserved.ensures.len),
+                  omega (arith, c.push_reserved.ensures.len),
                   (
-                    subst D i (frames_more (vec_items s.frames) c.args.length s.frames_apart (sym c.if-has-frame.ensures)),
+                    subst D i (frames_more (vec_items s.frames) c.args.length s.frames_apart (sym c.if-has_frame.ensures)),
                     (subst F i (all_push frame_fits (vec_items s.frames) c.args.length s.frames_fit (fits_frame c.args.length (omega arith) (omega arith))), tt),
                   ),
                 ),

@@ -5,21 +5,21 @@ use Rattle.processor.specs.declared.mode.Mode.{Mode}
 use Rattle.processor.proofs.Growth.{room_for_mode, modes_more, between_more}
 use Rattle.processor.proofs.table.Processor.add_mode.Goals as goal
 
-pub push-reserved-requires : goal.push-reserved-requires
-push-reserved-requires c =
+pub push_reserved-requires : goal.push_reserved-requires
+push_reserved-requires c =
     let s = c.args.self.now in
-    let h = room_for_mode (vec_items s.modes) c.args.number (omega arith) (omega arith) s.modes_apart (sym (c.if-is-some.ensures ∙ ap is_some c.mode.ensures)) in
+    let h = room_for_mode (vec_items s.modes) c.args.number (omega arith) (omega arith) s.modes_apart (sym (c.if-is_some.ensures ∙ ap is_some c.mode.ensures)) in
     omega (arith, s.modes_room, s.modes.ok.0)
 
-pub invariant-of-self : goal.invariant-of-self
-invariant-of-self c =
+pub invariant_of-self : goal.invariant_of-self
+invariant_of-self c =
     let s = c.args.self.now in
     let D : List Mode → Type 0 = λ ms. modes_differ ms ≡ true in
     let B : List Mode → Type 0 = λ ms. all (between ms) (vec_items s.switches) ≡ true in
-    let i = sym c.push-reserved.ensures.items in (
-      omega (arith, c.push-reserved.ensures.capacity, s.modes_room),
+    let i = sym c.push_reserved.ensures.items in (
+      omega (arith, c.push_reserved.ensures.capacity, s.modes_room),
       (
-        subst D i (modes_more (vec_items s.modes) _ s.modes_apart (sym (c.if-is-some.ensures ∙ ap is_some c.mode.ensures))),
+        subst D i (modes_more (vec_items s.modes) _ s.modes_apart (sym (c.if-is_some.ensures ∙ ap is_some c.mode.ensures))),
         (
           s.switches_room,
           (
@@ -37,7 +37,7 @@ pub returns : goal.returns
 returns c =
     record {
       answer = search rules;
-      listed = (_, refl, refl, refl, c.push-reserved.ensures.items);
+      listed = (_, refl, refl, refl, c.push_reserved.ensures.items);
       switches = search rules;
       frames = search rules;
       same = tt;

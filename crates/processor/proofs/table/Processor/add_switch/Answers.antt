@@ -6,42 +6,42 @@ use Rattle.processor.proofs.Growth.{has_mode_limits, room_for_switch, switches_m
 use Rattle.processor.proofs.Pigeons.{all_push}
 use Rattle.processor.proofs.table.Processor.add_switch.Goals as goal
 
-pub invariant-of-push-reserved : goal.invariant-of-push-reserved
-invariant-of-push-reserved c =
+pub invariant_of-push_reserved : goal.invariant_of-push_reserved
+invariant_of-push_reserved c =
     let ms = vec_items c.args.self.now.modes in
-    let a = has_mode_limits c.args.from ms (listed_mode c.args.from ms c.mode.result c.if-is-none.ensures c.mode.ensures) in
-    let b = has_mode_limits c.args.to ms (listed_mode c.args.to ms c.mode-2.result c.if-is-none-2.ensures c.mode-2.ensures) in
+    let a = has_mode_limits c.args.from ms (listed_mode c.args.from ms c.mode.result c.if-is_none.ensures c.mode.ensures) in
+    let b = has_mode_limits c.args.to ms (listed_mode c.args.to ms c.mode-2.result c.if-is_none-2.ensures c.mode-2.ensures) in
     (a.0, (a.1, (b.0, (b.1, (c.if-from-to.false, (omega arith, tt))))))
 
-pub push-reserved-requires : goal.push-reserved-requires
-push-reserved-requires c =
+pub push_reserved-requires : goal.push_reserved-requires
+push_reserved-requires c =
     let s = c.args.self.now in
     let ms = vec_items s.modes in
     let h = room_for_switch (vec_items s.switches) c.args.from c.args.to
-    (has_mode_limits c.args.from ms (listed_mode c.args.from ms c.mode.result c.if-is-none.ensures c.mode.ensures))
-    (has_mode_limits c.args.to ms (listed_mode c.args.to ms c.mode-2.result c.if-is-none-2.ensures c.mode-2.ensures))
-    c.if-from-to.false s.switches_apart (sym (c.if-is-some.ensures ∙ ap is_some c.switch-time.ensures)) in
+    (has_mode_limits c.args.from ms (listed_mode c.args.from ms c.mode.result c.if-is_none.ensures c.mode.ensures))
+    (has_mode_limits c.args.to ms (listed_mode c.args.to ms c.mode-2.result c.if-is_none-2.ensures c.mode-2.ensures))
+    c.if-from-to.false s.switches_apart (sym (c.if-is_some.ensures ∙ ap is_some c.switch_time.ensures)) in
     omega (arith, s.switches_room, s.switches.ok.0)
 
-pub invariant-of-self : goal.invariant-of-self
-invariant-of-self c =
+pub invariant_of-self : goal.invariant_of-self
+invariant_of-self c =
     let s = c.args.self.now in
     let ms = vec_items s.modes in
     let D : List Switch → Type 0 = λ ss. switches_differ ss ≡ true in
     let B : List Switch → Type 0 = λ ss. all (between ms) ss ≡ true in
-    let i = sym c.push-reserved.ensures.items in (
+    let i = sym c.push_reserved.ensures.items in (
       s.modes_room,
       (
         s.modes_apart,
         (
-          omega (arith, c.push-reserved.ensures.capacity, s.switches_room),
+          omega (arith, c.push_reserved.ensures.capacity, s.switches_room),
           (
-            subst D i (switches_more (vec_items s.switches) _ s.switches_apart (sym (c.if-is-some.ensures ∙ ap is_some c.switch-time.ensures))),
+            subst D i (switches_more (vec_items s.switches) _ s.switches_apart (sym (c.if-is_some.ensures ∙ ap is_some c.switch_time.ensures))),
             (
               subst B i (all_push (between ms) (vec_items s.switches) _ s.switches_between
                   (between_these ms c.args.from c.args.to
-                  (listed_mode c.args.from ms c.mode.result c.if-is-none.ensures c.mode.ensures)
-                  (listed_mode c.args.to ms c.mode-2.result c.if-is-none-2.ensures c.mode-2.ensures))),
+                  (listed_mode c.args.from ms c.mode.result c.if-is_none.ensures c.mode.ensures)
+                  (listed_mode c.args.to ms c.mode-2.result c.if-is_none-2.ensures c.mode-2.ensures))),
               (s.frames_room, (s.frames_few, (s.frames_apart, (s.frames_fit, tt)))),
             ),
           ),
@@ -53,7 +53,7 @@ pub returns : goal.returns
 returns c =
     record {
       answer = search rules;
-      listed = (_, refl, refl, refl, c.push-reserved.ensures.items);
+      listed = (_, refl, refl, refl, c.push_reserved.ensures.items);
       modes = search rules;
       frames = search rules;
       same = tt;

@@ -8,25 +8,25 @@ use Rattle.processor.proofs.table.Processor.candidate.Goals as goal
 pub returns-then-low-high : goal.returns-then-low-high
 returns-then-low-high c =
     let t = c.args.self.now in
-    let e = sym c.in-ok-mode.ensures in
-    let n = found_number t c.args.low c.in-ok-mode.mode e in
+    let e = sym c.in_ok-mode.ensures in
+    let n = found_number t c.args.low c.in_ok-mode.mode e in
     (ap (λ k. mode_of k (vec_items t.modes)) n ∙ e, (n, n ∙ c.if-low-high.true, omega arith, omega arith))
 
-pub returns-in-err-pair : goal.returns-in-err-pair
-returns-in-err-pair c =
+pub returns-in_err-pair : goal.returns-in_err-pair
+returns-in_err-pair c =
     let t = c.args.self.now in
-    let s = c.in-ok-splits.ensures in
+    let s = c.in_ok-splits.ensures in
     let C : Option Drive → Type 0 = λ r. MatchOption r
     ((d : Drive) → Candidate t d → Named c.args.low c.args.high c.args.low_time c.args.high_time d → ⊥)
     (λ d. Candidate t d × Named c.args.low c.args.high c.args.low_time c.args.high_time d) in
-    subst C (sym c.from-residual-in-err-pair.ensures)
-    (none_named t c.args.low c.args.high c.args.low_time c.args.high_time c.in-ok-frame.frame c.if-low-high.false c.in-ok-frame.ensures.1
-    (λ p o e. c.in-err-pair.ensures (let w = (s.0 p o).0 in (omega (arith, w.0), omega (arith, w.1)))))
+    subst C (sym c.from-residual-in_err-pair.ensures)
+    (none_named t c.args.low c.args.high c.args.low_time c.args.high_time c.in_ok-frame.frame c.if-low-high.false c.in_ok-frame.ensures.1
+    (λ p o e. c.in_err-pair.ensures (let w = (s.0 p o).0 in (omega (arith, w.0), omega (arith, w.1)))))
 
 pub returns : goal.returns
 returns c =
     let t = c.args.self.now in
-    let s = c.in-ok-splits.ensures in
-    named t c.args.low c.args.high c.args.low_time c.args.high_time c.in-ok-frame.frame c.if-low-high.false c.in-ok-frame.ensures.1
-    c.in-ok-splits.splits c.in-ok-pair.pair c.in-ok-pair.ensures
-    (s.1 c.args.high_time c.in-ok-pair.pair c.in-ok-pair.ensures)
+    let s = c.in_ok-splits.ensures in
+    named t c.args.low c.args.high c.args.low_time c.args.high_time c.in_ok-frame.frame c.if-low-high.false c.in_ok-frame.ensures.1
+    c.in_ok-splits.splits c.in_ok-pair.pair c.in_ok-pair.ensures
+    (s.1 c.args.high_time c.in_ok-pair.pair c.in_ok-pair.ensures)

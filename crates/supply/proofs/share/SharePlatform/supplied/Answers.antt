@@ -4,10 +4,10 @@ use Rattle.supply.specs.Laws.{longest_window}
 use Rattle.supply.specs.LayersLemmas.{answer_small}
 use Rattle.supply.proofs.share.SharePlatform.supplied.Goals as goal
 
-pub overflow-mul-parts : goal.overflow-mul-parts
-overflow-mul-parts g c =
+pub overflow_mul-parts : goal.overflow_mul-parts
+overflow_mul-parts g c =
     let below = c.args.self.now.below in
     let drive = c.args.drive.now in
-    let h = answer_small drive (g.P.Platform.supply below drive) (g.met.P.Platform.lawful below drive) c.args.window c.in-ok-cycles.cycles c.in-ok-cycles.ensures in
-    let k : c.in-ok-cycles.cycles * c.from.result ≤ top_speed * longest_window * c.from.result = mul-le-mul_right c.from.result h in
+    let h = answer_small drive (g.P.Platform.supply below drive) (g.met.P.Platform.lawful below drive) c.args.window c.in_ok-cycles.cycles c.in_ok-cycles.ensures in
+    let k : c.in_ok-cycles.cycles * c.from.result ≤ top_speed * longest_window * c.from.result = mul-le-mul_right c.from.result h in
     omega (arith, c.args.self.now.part, c.args.self.now.limit)
