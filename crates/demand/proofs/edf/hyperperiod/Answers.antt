@@ -22,7 +22,7 @@ returns-in_err-hyper c =
     let e : lcm c.periods.hyper x.period ≡ lcm (hyper (periods (take i ts))) x.period = ap (λ h. lcm h x.period) c.periods.invariant.0 in
     let over = none_within (lcm c.periods.hyper x.period) c.in_err-hyper.ensures in
     record {
-      value = c.from-residual.ensures ∙ sym (within_none (hyper (periods ts)) (omega (arith, n, e, over, hyper_front ts (i + 1))));
+      value = c.from_residual.ensures ∙ sym (within_none (hyper (periods ts)) (omega (arith, n, e, over, hyper_front ts (i + 1))));
       least = hyper_is_least (periods ts) (periods_positive ts);
     }
 

@@ -6,7 +6,7 @@ use Rattle.input.proofs.entry.entry_of.Goals as goal
 
 pub returns-in_err-speed : goal.returns-in_err-speed
 returns-in_err-speed c =
-    let p = err_from_is_err_and c.from-residual-in_err-speed.result c.from-residual-in_err-speed.ensures.1 in
+    let p = err_from_is_err_and c.from_residual-in_err-speed.result c.from_residual-in_err-speed.ensures.1 in
     rw (p.1, p.2) (in_mode (subst (λ k. KindIn c.args.file.now c.args.line.now (Ok k)) c.in-Mode.is c.in_ok-kind.ensures) (record {
       at = 3;
       low = omega arith;
@@ -17,7 +17,7 @@ returns-in_err-speed c =
 
 pub returns-in_err-power : goal.returns-in_err-power
 returns-in_err-power c =
-    let p = err_from_is_err_and c.from-residual-in_err-power.result c.from-residual-in_err-power.ensures.1 in
+    let p = err_from_is_err_and c.from_residual-in_err-power.result c.from_residual-in_err-power.ensures.1 in
     rw (p.1, p.2) (in_mode (subst (λ k. KindIn c.args.file.now c.args.line.now (Ok k)) c.in-Mode.is c.in_ok-kind.ensures) (record {
       at = 4;
       low = omega arith;
@@ -29,7 +29,7 @@ returns-in_err-power c =
 
 pub returns-in_err-to : goal.returns-in_err-to
 returns-in_err-to c =
-    let p = err_from_is_err_and c.from-residual-in_err-to.result c.from-residual-in_err-to.ensures.1 in
+    let p = err_from_is_err_and c.from_residual-in_err-to.result c.from_residual-in_err-to.ensures.1 in
     rw (p.1, p.2) (in_switch (subst (λ k. KindIn c.args.file.now c.args.line.now (Ok k)) c.in-Switch.is c.in_ok-kind.ensures) (record {
       at = 3;
       low = omega arith;
@@ -40,7 +40,7 @@ returns-in_err-to c =
 
 pub returns-in_err-time : goal.returns-in_err-time
 returns-in_err-time c =
-    let p = err_from_is_err_and c.from-residual-in_err-time.result c.from-residual-in_err-time.ensures.1 in
+    let p = err_from_is_err_and c.from_residual-in_err-time.result c.from_residual-in_err-time.ensures.1 in
     rw (p.1, p.2) (in_switch (subst (λ k. KindIn c.args.file.now c.args.line.now (Ok k)) c.in-Switch.is c.in_ok-kind.ensures) (record {
       at = 4;
       low = omega arith;
@@ -52,5 +52,5 @@ returns-in_err-time c =
 
 pub returns-in_err-leave_empty-2 : goal.returns-in_err-leave_empty-2
 returns-in_err-leave_empty-2 c =
-    let p = err_from_is_err_and c.from-residual-in_err-leave_empty-2.result c.from-residual-in_err-leave_empty-2.ensures.1 in
+    let p = err_from_is_err_and c.from_residual-in_err-leave_empty-2.result c.from_residual-in_err-leave_empty-2.ensures.1 in
     rw (p.1, p.2) (fourth_filled (subst (λ k. KindIn c.args.file.now c.args.line.now (Ok k)) c.in-Frame.is c.in_ok-kind.ensures) c.in_ok-leave_empty.ensures c.in_err-leave_empty-2.ensures)

@@ -13,7 +13,7 @@ at_first F at ms ss ps p q r h = rw (p, q, r) (header h)
 
 pub returns-in_err-at : goal.returns-in_err-at
 returns-in_err-at c =
-    let p = err_from_is_err_and c.from-residual.result c.from-residual.ensures.1 in
+    let p = err_from_is_err_and c.from_residual.result c.from_residual.ensures.1 in
     rw (p.1, p.2) (in_header c.in_err-at.ensures.reads)
 
 pub records-init : goal.records-init
@@ -26,18 +26,18 @@ records-init c = (
 
 pub returns-in_err-line : goal.returns-in_err-line
 returns-in_err-line c =
-    let p = err_from_is_err_and c.from-residual-in_err-line.result c.from-residual-in_err-line.ensures.1 in
+    let p = err_from_is_err_and c.from_residual-in_err-line.result c.from_residual-in_err-line.ensures.1 in
     rw (p.1, p.2) (in_record c.records.invariant.3 c.records-test.true c.in_err-line.ensures.reads)
 
 pub returns-in_err-entry : goal.returns-in_err-entry
 returns-in_err-entry c =
-    let p = err_from_is_err_and c.from-residual-in_err-entry.result c.from-residual-in_err-entry.ensures.1 in
+    let p = err_from_is_err_and c.from_residual-in_err-entry.result c.from_residual-in_err-entry.ensures.1 in
     rw (p.1, p.2)
     (in_field c.in_ok-line.line c.records.invariant.3 c.records-test.true c.in_ok-line.ensures.reads c.in_err-entry.ensures)
 
 pub returns-in_err-list : goal.returns-in_err-list
 returns-in_err-list c =
-    let p = err_from_is_err_and c.from-residual-in_err-list.result c.from-residual-in_err-list.ensures.1 in
+    let p = err_from_is_err_and c.from_residual-in_err-list.result c.from_residual-in_err-list.ensures.1 in
     rw (p.1, p.2)
     (in_table c.in_ok-line.line c.in_ok-entry.entry c.records.invariant.3 c.records-test.true c.in_ok-line.ensures.reads c.in_ok-entry.ensures c.in_err-list.ensures.answer)
 

@@ -5,7 +5,7 @@ use Rattle.input.proofs.tasks_file.figures_of.Goals as goal
 
 pub returns-in_err-fixed : goal.returns-in_err-fixed
 returns-in_err-fixed c =
-    let p = err_from_is_err_and c.from-residual-in_err-fixed.result c.from-residual-in_err-fixed.ensures.1 in
+    let p = err_from_is_err_and c.from_residual-in_err-fixed.result c.from_residual-in_err-fixed.ensures.1 in
     rw (p.1, p.2) (record {
       at = 3;
       low = omega arith;
@@ -17,7 +17,7 @@ returns-in_err-fixed c =
 
 pub returns-in_err-period : goal.returns-in_err-period
 returns-in_err-period c =
-    let p = err_from_is_err_and c.from-residual-in_err-period.result c.from-residual-in_err-period.ensures.1 in
+    let p = err_from_is_err_and c.from_residual-in_err-period.result c.from_residual-in_err-period.ensures.1 in
     rw (p.1, p.2) (record {
       at = 4;
       low = omega arith;
@@ -30,7 +30,7 @@ returns-in_err-period c =
 
 pub returns-in_err-deadline : goal.returns-in_err-deadline
 returns-in_err-deadline c =
-    let p = err_from_is_err_and c.from-residual-in_err-deadline.result c.from-residual-in_err-deadline.ensures.1 in
+    let p = err_from_is_err_and c.from_residual-in_err-deadline.result c.from_residual-in_err-deadline.ensures.1 in
     rw (p.1, p.2) (record {
       at = 5;
       low = omega arith;

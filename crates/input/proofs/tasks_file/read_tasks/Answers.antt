@@ -6,7 +6,7 @@ use Rattle.input.proofs.tasks_file.read_tasks.Goals as goal
 
 pub returns-in_err-at : goal.returns-in_err-at
 returns-in_err-at c =
-    let p = err_from_is_err_and c.from-residual.result c.from-residual.ensures.1 in
+    let p = err_from_is_err_and c.from_residual.result c.from_residual.ensures.1 in
     rw (p.1, p.2) (in_header c.in_err-at.ensures.reads)
 
 pub records-init : goal.records-init
@@ -19,18 +19,18 @@ records-init c = (
 
 pub returns-in_err-line : goal.returns-in_err-line
 returns-in_err-line c =
-    let p = err_from_is_err_and c.from-residual-in_err-line.result c.from-residual-in_err-line.ensures.1 in
+    let p = err_from_is_err_and c.from_residual-in_err-line.result c.from_residual-in_err-line.ensures.1 in
     rw (p.1, p.2) (in_entry c.records.invariant.3 c.records-test.true c.in_err-line.ensures.reads)
 
 pub returns-in_err-figures : goal.returns-in_err-figures
 returns-in_err-figures c =
-    let p = err_from_is_err_and c.from-residual-in_err-figures.result c.from-residual-in_err-figures.ensures.1 in
+    let p = err_from_is_err_and c.from_residual-in_err-figures.result c.from_residual-in_err-figures.ensures.1 in
     rw (p.1, p.2)
     (in_figure c.in_ok-line.line c.records.invariant.3 c.records-test.true c.in_ok-line.ensures.reads c.in_err-figures.ensures)
 
 pub returns-in_err-push : goal.returns-in_err-push
 returns-in_err-push c =
-    let p = err_from_is_err_and c.from-residual-in_err-push.result c.from-residual-in_err-push.ensures.1 in
+    let p = err_from_is_err_and c.from_residual-in_err-push.result c.from_residual-in_err-push.ensures.1 in
     rw (p.1, p.2) tt
 
 pub records-preserved : goal.records-preserved

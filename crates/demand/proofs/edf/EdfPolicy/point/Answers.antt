@@ -23,9 +23,9 @@ returns-in_err-hyper c =
     let ts = vec_items c.args.set.now.tasks in
     let P : List Task → Type 0 = λ us. None ≡ within_span (hyper (periods us)) in
     let n = subst P c.tasks-tasks.ensures.value c.in_err-hyper.ensures.value in
-    let e = c.from-residual.ensures ∙ edf_outside top ts c.args.group c.args.index n in
+    let e = c.from_residual.ensures ∙ edf_outside top ts c.args.group c.args.index n in
     let G = get_or (edf_groups (charges top ts)) c.args.group [] in
-    record { within = place_within G c.args.index c.from-residual.result e; beyond = place_beyond G c.args.index c.from-residual.result e }
+    record { within = place_within G c.args.index c.from_residual.result e; beyond = place_beyond G c.args.index c.from_residual.result e }
 
 pub returns-in_err-time : goal.returns-in_err-time
 returns-in_err-time c =
@@ -36,9 +36,9 @@ returns-in_err-time c =
     let s = subst P c.tasks-tasks.ensures.value c.in_ok-hyper.ensures.value in
     let Q : List Task → Type 0 = λ us. None ≡ slice_get (edf_times (charges top us) h) c.args.group in
     let n = subst Q c.tasks-tasks.ensures.value (c.in_err-time.ensures.place top) in
-    let e = c.from-residual-in_err-time.ensures ∙ edf_no_time top ts c.args.group c.args.index h s n in
+    let e = c.from_residual-in_err-time.ensures ∙ edf_no_time top ts c.args.group c.args.index h s n in
     let G = get_or (edf_groups (charges top ts)) c.args.group [] in
-    record { within = place_within G c.args.index c.from-residual-in_err-time.result e; beyond = place_beyond G c.args.index c.from-residual-in_err-time.result e }
+    record { within = place_within G c.args.index c.from_residual-in_err-time.result e; beyond = place_beyond G c.args.index c.from_residual-in_err-time.result e }
 
 pub returns : goal.returns
 returns c =

@@ -14,9 +14,9 @@ returns-in_err-task c =
     let ts = vec_items c.args.set.now.tasks in
     let l = ap length c.tasks-tasks.ensures.value in
     let past = c.in_err-task.ensures.lookup.3 in
-    let e = c.from-residual.ensures ∙ fp_no_task top ts c.args.group c.args.index (omega (arith, l, past)) in
+    let e = c.from_residual.ensures ∙ fp_no_task top ts c.args.group c.args.index (omega (arith, l, past)) in
     let G = get_or (fp_groups (charges top ts)) c.args.group [] in
-    record { within = place_within G c.args.index c.from-residual.result e; beyond = place_beyond G c.args.index c.from-residual.result e }
+    record { within = place_within G c.args.index c.from_residual.result e; beyond = place_beyond G c.args.index c.from_residual.result e }
 
 pub returns-in_err-time : goal.returns-in_err-time
 returns-in_err-time c =
@@ -25,9 +25,9 @@ returns-in_err-time c =
     let f = c.in_ok-task.ensures.lookup in
     let P : List Task → Type 0 = λ us. None ≡ slice_get (get_or (fp_groups (charges top us)) g []) c.args.index in
     let n = fp_no_time top c.tasks-tasks.result.now g c.args.index c.in_ok-task.task.now f.3.0 f.1 (c.in_err-time.ensures.place top) in
-    let e = c.from-residual-in_err-time.ensures ∙ subst P c.tasks-tasks.ensures.value n in
+    let e = c.from_residual-in_err-time.ensures ∙ subst P c.tasks-tasks.ensures.value n in
     let G = get_or (fp_groups (charges top (vec_items c.args.set.now.tasks))) g [] in
-    record { within = place_within G c.args.index c.from-residual-in_err-time.result e; beyond = place_beyond G c.args.index c.from-residual-in_err-time.result e }
+    record { within = place_within G c.args.index c.from_residual-in_err-time.result e; beyond = place_beyond G c.args.index c.from_residual-in_err-time.result e }
 
 pub returns : goal.returns
 returns c =

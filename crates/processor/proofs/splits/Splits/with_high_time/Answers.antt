@@ -9,4 +9,13 @@ invariant_of-result c =
     let q = c.args.high_time in
     let g = gains s.low.speed s.high.speed s.down s.up s.frame q s.faster (omega (arith, s.last))
     (pays s.low.speed s.high.speed s.down s.up q s.faster (omega (arith, s.first))) in
-    (s.faster, (s.short_up, (s.short_down, (s.short_frame, (omega (arith, s.last), (omega (arith, s.last), (g.0, (g.1, tt))))))))
+    record {
+      faster = s.faster;
+      short_up = s.short_up;
+      short_down = s.short_down;
+      short_frame = s.short_frame;
+      whole = omega (arith, s.last);
+      low_runs = omega (arith, s.last);
+      high_runs = g.0;
+      gains = g.1;
+    }

@@ -16,22 +16,18 @@ invariant_of-self c =
     let s = c.args.self.now in
     let D : List Mode → Type 0 = λ ms. modes_differ ms ≡ true in
     let B : List Mode → Type 0 = λ ms. all (between ms) (vec_items s.switches) ≡ true in
-    let i = sym c.push_reserved.ensures.items in (
-      omega (arith, c.push_reserved.ensures.capacity, s.modes_room),
-      (
-        subst D i (modes_more (vec_items s.modes) _ s.modes_apart (sym (c.if-is_some.ensures ∙ ap is_some c.mode.ensures))),
-        (
-          s.switches_room,
-          (
-            s.switches_apart,
-            (
-              subst B i (between_more (vec_items s.modes) _ (vec_items s.switches) s.switches_between),
-              (s.frames_room, (s.frames_few, (s.frames_apart, (s.frames_fit, tt)))),
-            ),
-          ),
-        ),
-      ),
-    )
+    let i = sym c.push_reserved.ensures.items in
+    record {
+      modes_room = omega (arith, c.push_reserved.ensures.capacity, s.modes_room);
+      modes_apart = subst D i (modes_more (vec_items s.modes) _ s.modes_apart (sym (c.if-is_some.ensures ∙ ap is_some c.mode.ensures)));
+      switches_room = s.switches_room;
+      switches_apart = s.switches_apart;
+      switches_between = subst B i (between_more (vec_items s.modes) _ (vec_items s.switches) s.switches_between);
+      frames_room = s.frames_room;
+      frames_few = s.frames_few;
+      frames_apart = s.frames_apart;
+      frames_fit = s.frames_fit;
+    }
 
 pub returns : goal.returns
 returns c =

@@ -11,7 +11,7 @@ invariant_of-push_reserved c =
     let ms = vec_items c.args.self.now.modes in
     let a = has_mode_limits c.args.from ms (listed_mode c.args.from ms c.mode.result c.if-is_none.ensures c.mode.ensures) in
     let b = has_mode_limits c.args.to ms (listed_mode c.args.to ms c.mode-2.result c.if-is_none-2.ensures c.mode-2.ensures) in
-    (a.0, (a.1, (b.0, (b.1, (c.if-from-to.false, (omega arith, tt))))))
+    record { counted_from = a.0; numbered_from = a.1; counted_to = b.0; numbered_to = b.1; apart = c.if-from-to.false; short = omega arith }
 
 pub push_reserved-requires : goal.push_reserved-requires
 push_reserved-requires c =
@@ -29,25 +29,22 @@ invariant_of-self c =
     let ms = vec_items s.modes in
     let D : List Switch → Type 0 = λ ss. switches_differ ss ≡ true in
     let B : List Switch → Type 0 = λ ss. all (between ms) ss ≡ true in
-    let i = sym c.push_reserved.ensures.items in (
-      s.modes_room,
-      (
-        s.modes_apart,
-        (
-          omega (arith, c.push_reserved.ensures.capacity, s.switches_room),
-          (
-            subst D i (switches_more (vec_items s.switches) _ s.switches_apart (sym (c.if-is_some.ensures ∙ ap is_some c.switch_time.ensures))),
-            (
-              subst B i (all_push (between ms) (vec_items s.switches) _ s.switches_between
-                  (between_these ms c.args.from c.args.to
-                  (listed_mode c.args.from ms c.mode.result c.if-is_none.ensures c.mode.ensures)
-                  (listed_mode c.args.to ms c.mode-2.result c.if-is_none-2.ensures c.mode-2.ensures))),
-              (s.frames_room, (s.frames_few, (s.frames_apart, (s.frames_fit, tt)))),
-            ),
-          ),
-        ),
-      ),
-    )
+    let i = sym c.push_reserved.ensures.items in
+    record {
+      modes_room = s.modes_room;
+      modes_apart = s.modes_apart;
+      switches_room = omega (arith, c.push_reserved.ensures.capacity, s.switches_room);
+      switches_apart = subst D i (switches_more (vec_items s.switches) _ s.switches_apart (sym (c.if-is_some.ensures ∙ ap is_some c.switch_time.ensures)));
+      switches_between = subst B i
+        (all_push (between ms) (vec_items s.switches) _ s.switches_between
+        (between_these ms c.args.from c.args.to
+        (listed_mode c.args.from ms c.mode.result c.if-is_none.ensures c.mode.ensures)
+        (listed_mode c.args.to ms c.mode-2.result c.if-is_none-2.ensures c.mode-2.ensures)));
+      frames_room = s.frames_room;
+      frames_few = s.frames_few;
+      frames_apart = s.frames_apart;
+      frames_fit = s.frames_fit;
+    }
 
 pub returns : goal.returns
 returns c =

@@ -19,7 +19,7 @@ returns-in_err-pair c =
     let C : Option Drive → Type 0 = λ r. MatchOption r
     ((d : Drive) → Candidate t d → Named c.args.low c.args.high c.args.low_time c.args.high_time d → ⊥)
     (λ d. Candidate t d × Named c.args.low c.args.high c.args.low_time c.args.high_time d) in
-    subst C (sym c.from-residual-in_err-pair.ensures)
+    subst C (sym c.from_residual-in_err-pair.ensures)
     (none_named t c.args.low c.args.high c.args.low_time c.args.high_time c.in_ok-frame.frame c.if-low-high.false c.in_ok-frame.ensures.1
     (λ p o e. c.in_err-pair.ensures (let w = (s.0 p o).0 in (omega (arith, w.0), omega (arith, w.1)))))
 
