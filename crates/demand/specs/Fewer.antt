@@ -52,4 +52,4 @@ module _ (Z : ℕ → ℕ) where
   edf_empty t b = omega arith
 
   pub fp_empty : FpFull [] Z
-  fp_empty c m = absurd (Memᴰ.not_nil m)
+  fp_empty c m = absurd (Memᴰ.not-nil m)

@@ -115,7 +115,7 @@ hyper_positive (n ∷ ns) f = (lcm_laws n (hyper ns) (f n (Memᴰ.head refl)) (h
 
 pub hyper_common : (ns : List ℕ) → Positive ns → Common ns (hyper ns)
 unfolding hyper
-hyper_common [] f d i = absurd (Memᴰ.not_nil i)
+hyper_common [] f d i = absurd (Memᴰ.not-nil i)
 hyper_common (n ∷ ns) f d i = way (Memᴰ.cases_cons i) (hyper_common ns (λ m j. f m (Memᴰ.tail j)) d)
   where
     l : Multiple n (lcm n (hyper ns)) × Multiple (hyper ns) (lcm n (hyper ns)) × (1 ≤ lcm n (hyper ns))

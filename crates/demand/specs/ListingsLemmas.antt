@@ -39,7 +39,7 @@ end_listed (c ∷ cs) h p e = Memᴰ.append_right (dues c h) (end_listed cs h p 
 due_listed : (cs : List Charged) → AllFit cs → (h p : ℕ) (c : Charged) → Memᴰ c cs → (k : ℕ) → p ≡ c.deadline + k * c.period → p ≤ h
     → Memᴰ p (edf_times cs h)
 unfolding edf_times
-due_listed [] f h p c i k e b = absurd (Memᴰ.not_nil i)
+due_listed [] f h p c i k e b = absurd (Memᴰ.not-nil i)
 due_listed (d ∷ cs) f h p c i k e b = way (Memᴰ.cases_cons i) (λ j. due_listed cs (rest f) h p c j k e b)
   where
     way : (c ≡ d) ⊎ Memᴰ c cs → (Memᴰ c cs → Memᴰ p (edf_times cs h)) → Memᴰ p (dues d h ++ edf_times cs h)
@@ -98,7 +98,7 @@ turns_within rank d l (a ∷ cs) f p i = way (nat_lt a.rank rank) (turns_within 
 turn_listed : (rank d : ℕ) (cs : List Charged) → AllFit cs → (p : ℕ) (a : Charged) → Memᴰ a cs → a.rank < rank → (k : ℕ) → p ≡ k * a.period → 1 ≤ p → p ≤ d
     → Memᴰ p (fp_times rank d cs)
 unfolding fp_times
-turn_listed rank d [] f p a i h k e b u = absurd (Memᴰ.not_nil i)
+turn_listed rank d [] f p a i h k e b u = absurd (Memᴰ.not-nil i)
 turn_listed rank d (x ∷ cs) f p a i h k e b u =
     way (Memᴰ.cases_cons i) (λ j. turn_listed rank d cs (rest f) p a j h k e b u)
   where

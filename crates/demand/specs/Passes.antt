@@ -13,7 +13,7 @@ Held Z G = (i : ℕ) × (i < length G) × Covered Z (slice_index_or G i (0, 0))
 
 module _ {X : Type 0} (Z : ℕ → ℕ) (g : X → List (ℕ × ℕ)) where
   pub passes_each : (xs : List X) → Passes Z (map g xs) → (x : X) → Memᴰ x xs → Held Z (g x)
-  passes_each [] h x i = absurd (Memᴰ.not_nil i)
+  passes_each [] h x i = absurd (Memᴰ.not-nil i)
   passes_each (y ∷ xs) h x i = way (Memᴰ.cases_cons i) (passes_each xs (λ k l. h (suc k) (omega arith)) x)
     where
       way : (x ≡ y) ⊎ Memᴰ x xs → (Memᴰ x xs → Held Z (g x)) → Held Z (g x)
@@ -27,7 +27,7 @@ module _ {X : Type 0} (Z : ℕ → ℕ) (g : X → List (ℕ × ℕ)) where
 
 module _ (Z w : ℕ → ℕ) where
   pub held_at : (ts : List ℕ) (t : ℕ) → Memᴰ t ts → w t ≤ Z t → Held Z (map (λ t. (t, w t)) ts)
-  held_at [] t i h = absurd (Memᴰ.not_nil i)
+  held_at [] t i h = absurd (Memᴰ.not-nil i)
   held_at (x ∷ ts) t i h = way (Memᴰ.cases_cons i) (λ j. held_at ts t j h)
     where
       way : (t ≡ x) ⊎ Memᴰ t ts → (Memᴰ t ts → Held Z (map (λ t. (t, w t)) ts)) → Held Z ((x, w x) ∷ map (λ t. (t, w t)) ts)
@@ -50,7 +50,7 @@ member_counting (suc n) a k l h = way (cases_lt a k) (λ g. member_counting n (a
     way (inr g) next = Memᴰ.head (omega arith)
 
 pub counting_member : (n a k : ℕ) → Memᴰ k (range_with_len a n) → (a ≤ k) × (k < a + n)
-counting_member zero a k i = absurd (Memᴰ.not_nil i)
+counting_member zero a k i = absurd (Memᴰ.not-nil i)
 counting_member (suc n) a k i = way (Memᴰ.cases_cons i) (counting_member n (a + 1) k)
   where
     way : (k ≡ a) ⊎ Memᴰ k (range_with_len (a + 1) n) → (Memᴰ k (range_with_len (a + 1) n) → (a + 1 ≤ k) × (k < a + 1 + n)) → (a ≤ k) × (k < a + suc n)

@@ -99,7 +99,7 @@ hyper_front ts i =
     omega (arith, e, hyper_part (periods ts) (take i (periods ts)) (periods_positive ts) (member_front (periods ts) i))
   where
     member_front : (ns : List ℕ) (k n : ℕ) → Memᴰ n (take k ns) → Memᴰ n ns
-    member_front ns zero n m = absurd (Memᴰ.not_nil m)
+    member_front ns zero n m = absurd (Memᴰ.not-nil m)
     member_front [] (suc k) n m = m
     member_front (a ∷ ns) (suc k) n (Memᴰ.head f) = Memᴰ.head f
     member_front (a ∷ ns) (suc k) n (Memᴰ.tail m) = Memᴰ.tail (member_front ns k n m)

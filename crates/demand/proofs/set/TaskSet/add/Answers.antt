@@ -8,4 +8,4 @@ invariant_of-self c =
     let s = c.args.self.now in
     let few : vec_len c.push_reserved.new.self ≤ most_tasks = omega (arith, c.push_reserved.ensures.len) in
     let room : most_tasks ≤ vec_capacity c.push_reserved.new.self = omega (arith, c.push_reserved.ensures.capacity, s.room) in
-    (few, (room, (rw c.push_reserved.ensures.items (push_apart (vec_items s.tasks) c.args.task s.apart (sym c.has_rank.ensures ∙ c.if-has_rank.false)), tt)))
+    record { few = few; room = room; apart = rw c.push_reserved.ensures.items (push_apart (vec_items s.tasks) c.args.task s.apart (sym c.has_rank.ensures ∙ c.if-has_rank.false)) }

@@ -8,4 +8,4 @@ invariant_of-self c =
     let s = c.args.self.now in
     let few : vec_len c.truncate.new.self ≤ most_tasks = omega (arith, c.truncate.ensures.len, s.few) in
     let room : most_tasks ≤ vec_capacity c.truncate.new.self = omega (arith, c.truncate.ensures.capacity, s.room) in
-    (few, (room, (rw c.truncate.ensures.items (take_apart c.saturating_sub-kept.result (vec_items s.tasks) s.apart), tt)))
+    record { few = few; room = room; apart = rw c.truncate.ensures.items (take_apart c.saturating_sub-kept.result (vec_items s.tasks) s.apart) }

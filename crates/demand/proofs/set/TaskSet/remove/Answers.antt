@@ -10,4 +10,4 @@ invariant_of-self c =
     let few : vec_len c.remove.new.self ≤ most_tasks = omega (arith, c.remove.ensures.len, s.few) in
     let room : most_tasks ≤ vec_capacity c.remove.new.self = omega (arith, c.remove.ensures.capacity, s.room) in
     let h : c.args.i < length (vec_items s.tasks) = omega arith in
-    (few, (room, (rw c.remove.ensures.items (removed_apart (vec_items s.tasks) c.args.i h s.apart), tt)))
+    record { few = few; room = room; apart = rw c.remove.ensures.items (removed_apart (vec_items s.tasks) c.args.i h s.apart) }

@@ -21,8 +21,8 @@ invariant_of-self c =
     let s = c.args.self.now in
     let l = s.tasks.ok.0 in
     let h : c.args.i < length (vec_items s.tasks) = omega arith in
-    let e = ranks_set (vec_items s.tasks) c.args.i c.index-mut.result.now c.change.new.self h c.index-mut.ensures.value (ap (λ f. f.rank) c.change.ensures) in
-    (s.few, (s.room, (subst Distinct (sym e) s.apart, tt)))
+    let e = ranks_set (vec_items s.tasks) c.args.i c.index_mut.result.now c.change.new.self h c.index_mut.ensures.value (ap (λ f. f.rank) c.change.ensures) in
+    record { few = s.few; room = s.room; apart = subst Distinct (sym e) s.apart }
 
 pub returns : goal.returns
 returns c =
@@ -31,5 +31,5 @@ returns c =
     let h : c.args.i < length ts = omega arith in
     record {
       answer = (c.if-not-takes.ensures.0 refl, sym (lt-ltb c.args.i (length ts) h));
-      rows = figures_set ts c.args.i c.index-mut.result.now c.change.new.self c.args.cycles c.args.fixed h c.index-mut.ensures.value c.change.ensures;
+      rows = figures_set ts c.args.i c.index_mut.result.now c.change.new.self c.args.cycles c.args.fixed h c.index_mut.ensures.value c.change.ensures;
     }
