@@ -16,8 +16,8 @@ digits-preserved c = (
 pub returns-in_default : goal.returns-in_default
 returns-in_default c v h = let d = digit_at c.args.text.now c.digits.byte-index h.digits (omega arith) in omega arith
 
-pub returns-in_default·2 : goal.returns-in_default·2
-returns-in_default·2 c v h = let d = digit_at c.args.text.now c.digits.byte-index h.digits (omega arith) in omega arith
+pub returns-in_default-2 : goal.returns-in_default-2
+returns-in_default-2 c v h = let d = digit_at c.args.text.now c.digits.byte-index h.digits (omega arith) in omega arith
 
 pub returns-then-value-from : goal.returns-then-value-from
 returns-then-value-from c v h =

@@ -8,4 +8,4 @@ invariant_of-self-2 c =
     let e = pushed (c.args.task ∷ []) refl c.in_ok-add.was c.add.ensures.items in
     let a = ap length e ∙ length-append (vec_items s.set.tasks) (c.args.task ∷ []) in
     let b = ap length c.push_reserved.ensures.items ∙ length-append (vec_items s.tickets) (c.args.ticket ∷ []) in
-    (omega (arith, s.same), (omega (arith, c.push_reserved.ensures.capacity, s.room), tt))
+    record { same = omega (arith, s.same); room = omega (arith, c.push_reserved.ensures.capacity, s.room) }

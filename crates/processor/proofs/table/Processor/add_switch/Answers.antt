@@ -36,10 +36,10 @@ invariant_of-self c =
       switches_room = omega (arith, c.push_reserved.ensures.capacity, s.switches_room);
       switches_apart = subst D i (switches_more (vec_items s.switches) _ s.switches_apart (sym (c.if-is_some.ensures ∙ ap is_some c.switch_time.ensures)));
       switches_between = subst B i
-        (all_push (between ms) (vec_items s.switches) _ s.switches_between
-        (between_these ms c.args.from c.args.to
-        (listed_mode c.args.from ms c.mode.result c.if-is_none.ensures c.mode.ensures)
-        (listed_mode c.args.to ms c.mode-2.result c.if-is_none-2.ensures c.mode-2.ensures)));
+          (all_push (between ms) (vec_items s.switches) _ s.switches_between
+          (between_these ms c.args.from c.args.to
+          (listed_mode c.args.from ms c.mode.result c.if-is_none.ensures c.mode.ensures)
+          (listed_mode c.args.to ms c.mode-2.result c.if-is_none-2.ensures c.mode-2.ensures)));
       frames_room = s.frames_room;
       frames_few = s.frames_few;
       frames_apart = s.frames_apart;
