@@ -1,5 +1,5 @@
 -- The ranks of a list of tasks.
-use Rattle.std.specs.Prelude.{◌≡◌, ℕ, ◌<◌, ◌≤◌, Bool, true, false, cond, List, [], ◌∷◌, map, length, ◌==◌, ◌≢◌, slice_index}
+use Rattle.std.specs.Prelude.{ℕ, ◌<◌, ◌≤◌, Bool, true, false, cond, List, [], ◌∷◌, map, length, ◌==◌, ◌≢◌, slice_index}
 use Rattle.demand.specs.declared.task.Task.{Task}
 use Rattle.demand.specs.Limits.{most_tasks}
 

@@ -1,5 +1,5 @@
 -- The fields before the one that holds no number.
-use Rattle.std.proofs.Common.{◌≡◌, ℕ, ◌+◌, ◌<◌, ◌≤◌, List, Ok, Err, sym, subst, ⊎_elim, arith}
+use Rattle.std.proofs.Common.{◌≡◌, ℕ, ◌+◌, List, Ok, subst, ⊎_elim, arith}
 use Rattle.std.proofs.lemmas.Bool.{cases_lt}
 use Rattle.input.specs.Cells.{NumberIn}
 use Rattle.input.specs.TaskFiles.{NumbersIn}

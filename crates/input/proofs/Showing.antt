@@ -1,5 +1,5 @@
 -- Where a record starts, and that it starts nowhere else.
-use Rattle.std.proofs.Common.{◌≡◌, ℕ, suc, ◌+◌, ◌<◌, ◌≤◌, min, List, length, Some, None, Option, sym, refl, ap, ◌∙◌, subst, ⊎_elim, add-one, arith, MatchOption}
+use Rattle.std.proofs.Common.{◌≡◌, ℕ, ◌+◌, ◌<◌, ◌≤◌, min, List, length, Some, None, Option, refl, subst, ⊎_elim, add-one, arith, MatchOption}
 use Rattle.std.proofs.lemmas.Bool.{cases_lt}
 use Rattle.rfc4180.proofs.Once.{next_once, whole_broken}
 use Rattle.rfc4180.specs.Records.{Numbered, RecordAt, BrokenRecord}

@@ -1,5 +1,5 @@
 -- The file of tasks: a header, then the figures of a task in each record.
-use Rattle.std.specs.Prelude.{◌≡◌, ℕ, suc, ◌+◌, ◌<◌, ◌≤◌, List, [], ◌∷◌, ◌++◌, length, Ok, Err, Result}
+use Rattle.std.specs.Prelude.{ℕ, ◌+◌, ◌<◌, ◌≤◌, List, [], ◌∷◌, ◌++◌, length, Ok, Err, Result}
 use Rattle.demand.specs.declared.task.Figures.{Figures}
 use Rattle.input.specs.Cells.{NumberIn}
 use Rattle.input.specs.Headers.{HeaderIn, EntryAt}

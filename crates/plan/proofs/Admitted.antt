@@ -1,5 +1,5 @@
 -- The answers of an admission, by what the table and the search say.
-use Rattle.std.proofs.Common.{◌≡◌, ℕ, ◌+◌, ◌-◌, ◌<◌, ◌≤◌, Bool, true, false, cond, ltb, ◌⊎◌, List, [], ◌∷◌, ◌++◌, length, take, Some, None, Ok, Err, vec_items, Option, Result, sym, refl, ap, ◌∙◌, subst, inl, inr, ⊎_elim, arith, length-append, le-ltb, lt-ltb, eq-eqb}
+use Rattle.std.proofs.Common.{◌≡◌, ℕ, ◌+◌, ◌-◌, ◌<◌, ◌≤◌, Bool, true, false, cond, ltb, List, [], ◌∷◌, ◌++◌, length, take, Some, None, Ok, Err, vec_items, Result, sym, refl, ap, ◌∙◌, subst, inl, inr, ⊎_elim, arith, length-append, le-ltb, lt-ltb, eq-eqb}
 use Rattle.std.proofs.lemmas.List.{take_at}
 use Rattle.std.proofs.lemmas.Bool.{cases_Bool}
 use Rattle.processor.specs.Candidates.{Candidate}
@@ -8,15 +8,15 @@ use Rattle.processor.specs.declared.mode.Mode.{Mode}
 use Rattle.processor.specs.declared.drive.Drive.TheVariants.{Fixed}
 use Rattle.processor.specs.declared.drive.Drive.{Drive}
 use Rattle.processor.specs.declared.refusal.Refusal.{Refusal}
-use Rattle.processor.specs.declared.refusal.Refusal.TheVariants.{RankTaken, PlanFull, NoTickets, OutsideSpan, NoDrive}
+use Rattle.processor.specs.declared.refusal.Refusal.TheVariants.{RankTaken, PlanFull, NoTickets, OutsideSpan}
 use Rattle.processor.specs.declared.table.Processor.{Processor}
 use Rattle.demand.specs.Figures.{figures_of}
 use Rattle.demand.specs.Limits.{most_tasks}
 use Rattle.demand.specs.Ranks.{has_rank}
 use Rattle.demand.specs.declared.task.Figures.{Figures}
 use Rattle.demand.specs.declared.task.Task.{Task}
-use Rattle.plan.specs.Feasible.{Cheapest, NoCandidate}
-use Rattle.plan.specs.Admitting.{last_ticket, Sound, turned_away, Admits, Settles}
+use Rattle.plan.specs.Feasible.{NoCandidate}
+use Rattle.plan.specs.Admitting.{last_ticket, turned_away, Admits, Settles}
 
 -- a push and a pop after it leave the list as it was
 pub popped : {X : Type 0} (xs ys zs : List X) (x : X) → ys ≡ xs ++ x ∷ [] → zs ≡ take (length ys - 1) ys → zs ≡ xs

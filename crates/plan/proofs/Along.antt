@@ -1,10 +1,10 @@
 -- Going along the splits of a frame.
-use Rattle.std.proofs.Common.{◌≡◌, ℕ, ◌+◌, ◌-◌, ◌*◌, ◌<◌, ◌≤◌, Bool, true, false, cond, leb, ◌⊎◌, IfSome, Some, None, Option, sym, refl, ap, ◌∙◌, subst, ap₂, inl, inr, ⊎_elim, mul-le-mul_right, mul-le-mul_left, mul-add, arith, leb-false, leb-true, MatchOption}
+use Rattle.std.proofs.Common.{◌≡◌, ℕ, ◌+◌, ◌-◌, ◌*◌, ◌<◌, ◌≤◌, Bool, true, false, leb, IfSome, Some, None, Option, sym, refl, ap, ◌∙◌, subst, ap₂, inl, inr, ⊎_elim, mul-le-mul_right, mul-add, arith, leb-false, leb-true, MatchOption}
 use Rattle.std.proofs.lemmas.Bool.{cases_lt, cases_Bool}
 use Rattle.processor.specs.Drives.{energy_of, span_of}
 use Rattle.processor.specs.Intervals.{Within, SplitOf, numbered_time}
 use Rattle.processor.specs.declared.drive.Drive.{Drive}
-use Rattle.processor.specs.declared.drive.Drive.TheVariants.{Fixed, Pair as Turns}
+use Rattle.processor.specs.declared.drive.Drive.TheVariants.{Pair as Turns}
 use Rattle.processor.specs.declared.drive.Pair.{Pair}
 use Rattle.processor.specs.declared.splits.Splits.{Splits}
 use Rattle.processor.proofs.Same.{same_pair}

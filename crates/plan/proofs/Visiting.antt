@@ -1,9 +1,9 @@
 -- Which drives the parts of the search go through.
-use Rattle.std.proofs.Common.{◌≡◌, ℕ, ◌<◌, ◌≤◌, true, ◌⊎◌, Some, None, vec_items, Option, sym, refl, ap, ◌∙◌, subst, inl, inr, ⊎_elim, arith, MatchOption}
+use Rattle.std.proofs.Common.{◌≡◌, ℕ, ◌<◌, ◌≤◌, true, Some, None, vec_items, Option, sym, refl, ap, ◌∙◌, subst, inl, inr, ⊎_elim, arith, MatchOption}
 use Rattle.std.proofs.lemmas.Bool.{cases_lt}
 use Rattle.processor.specs.Candidates.{Candidate, OnFrame}
 use Rattle.processor.specs.Intervals.{Within, SplitOf}
-use Rattle.processor.specs.Tables.{mode_of, has_frame, LongestBelow}
+use Rattle.processor.specs.Tables.{mode_of, has_frame}
 use Rattle.processor.specs.declared.drive.Drive.{Drive}
 use Rattle.processor.specs.declared.drive.Drive.TheVariants.{Fixed, Pair as Turns}
 use Rattle.processor.specs.declared.drive.Pair.{Pair}
@@ -13,7 +13,7 @@ use Rattle.processor.specs.declared.table.Processor.{Processor}
 use Rattle.processor.proofs.Streams.{found_number}
 use Rattle.plan.specs.Feasible.{NoCandidate, Cheapest}
 use Rattle.plan.specs.Searches.{Improves, Below, FixedAt, PairAt, SplitIn, Seen}
-use Rattle.plan.proofs.Improving.{improves_same, improves_join}
+use Rattle.plan.proofs.Improving.{improves_join}
 
 -- the fixed drive of a mode number is one
 module _ (t : Processor) (n : ℕ) (m : Mode) (is : mode_of n (vec_items t.modes) ≡ Some m) where

@@ -1,5 +1,5 @@
 -- When a split of a frame gains over its low mode.
-use Rattle.std.proofs.Common.{◌≡◌, ℕ, ◌+◌, ◌-◌, ◌*◌, ◌/◌, ◌<◌, ◌≤◌, ap, ◌∙◌, add-mul, mul-le-mul_left, mul-add, arith}
+use Rattle.std.proofs.Common.{◌≡◌, ℕ, ◌+◌, ◌-◌, ◌*◌, ◌<◌, ◌≤◌, ap, ◌∙◌, add-mul, mul-le-mul_left, mul-add, arith}
 use native.Mathlib.Nat.{lt_of_mul-lt-mul_left}
 
 -- low speed l, high speed h, switches d and u, frame P, high time q

@@ -4,8 +4,8 @@ use Rattle.std.proofs.lemmas.Bool.{cases_Bool}
 use Rattle.std.proofs.lemmas.Bool.Decides.{nat_tests}
 use Rattle.std.specs.Option.{option_map}
 use Rattle.processor.specs.Limits.{last_mode, most_switches, longest_frame}
-use Rattle.processor.specs.Lists.{first, all, distinct}
-use Rattle.processor.specs.Tables.{has_number, leads, lasts, mode_of, time_of, has_mode, has_switch, has_frame}
+use Rattle.processor.specs.Lists.{first, all}
+use Rattle.processor.specs.Tables.{has_number, leads, lasts, mode_of, has_mode, has_switch, has_frame}
 use Rattle.processor.specs.Kept.{modes_differ, switches_differ, frames_differ, frame_fits, between}
 use Rattle.processor.specs.declared.mode.Mode.{Mode}
 use Rattle.processor.specs.declared.mode.Switch.{Switch}

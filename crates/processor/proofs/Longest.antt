@@ -1,9 +1,8 @@
 -- The longest frame, one frame after another.
-use Rattle.std.proofs.Common.{◌≡◌, ℕ, ◌+◌, ◌<◌, ◌≤◌, Bool, true, false, cond, eqb, ltb, ◌⊎◌, List, [], ◌∷◌, ◌++◌, length, get_or, take, is_some, Some, None, Option, sym, refl, ap, subst, inl, inr, ⊎_elim, arith, ltb-false, ltb-true, eq-eqb, eqb-true, MatchOption}
+use Rattle.std.proofs.Common.{◌≡◌, ℕ, ◌+◌, ◌<◌, ◌≤◌, true, false, eqb, ltb, ◌⊎◌, List, [], ◌∷◌, ◌++◌, length, get_or, take, Some, None, Option, sym, refl, inl, inr, ⊎_elim, arith, ltb-false, ltb-true, eq-eqb, eqb-true}
 use Rattle.std.proofs.lemmas.List.{take_more}
 use Rattle.std.proofs.lemmas.Bool.{cases_Bool}
 use Rattle.processor.specs.Frames.{longer_of}
-use Rattle.processor.specs.Lists.{first}
 use Rattle.processor.specs.Tables.{lasts, has_frame, LongestBelow}
 use Rattle.processor.proofs.Growth.{some_more}
 

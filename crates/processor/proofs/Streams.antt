@@ -1,5 +1,5 @@
 -- The candidates of two mode numbers on a frame are the splits of that frame.
-use Rattle.std.proofs.Common.{◌≡◌, ℕ, ◌+◌, ◌-◌, ◌≤◌, Bool, true, Some, None, vec_items, Option, sym, refl, ap, ◌∙◌, subst, arith, eqb-true, MatchOption}
+use Rattle.std.proofs.Common.{◌≡◌, ℕ, ◌+◌, ◌-◌, true, Some, None, vec_items, Option, sym, refl, ap, ◌∙◌, subst, arith, eqb-true, MatchOption}
 use Rattle.processor.specs.Candidates.{Candidate, Named, OnFrame}
 use Rattle.processor.specs.Intervals.{LawfulSplit, SplitsOf, Within, SplitOf}
 use Rattle.processor.specs.Tables.{has_number, mode_of, time_of, has_frame}

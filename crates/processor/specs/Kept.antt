@@ -1,7 +1,7 @@
 -- What a filled table keeps.
-use Rattle.std.specs.Prelude.{ℕ, Bool, true, false, cond, not, List, nat_lt}
+use Rattle.std.specs.Prelude.{ℕ, Bool, false, cond, not, List, nat_lt}
 use Rattle.processor.specs.Limits.{longest_frame}
-use Rattle.processor.specs.Lists.{all, distinct}
+use Rattle.processor.specs.Lists.{distinct}
 use Rattle.processor.specs.Tables.{has_number, leads, lasts, has_mode}
 use Rattle.processor.specs.declared.mode.Mode.{Mode}
 use Rattle.processor.specs.declared.mode.Switch.{Switch}

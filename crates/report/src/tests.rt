@@ -21,7 +21,10 @@ fn header(rt: HostRuntime) -> Result<(), Fail> {
     let mut buffer = [0u8; 100];
     let end = write_header(&mut buffer, 0)?;
     assert!(rt; end == 58);
-    assert!(rt; &buffer[0..end] == b"record,answer,ticket,low,high,qlow,qhigh,nanojoule,frame\r\n");
+    assert!(rt;
+        &buffer[0..end]
+            == b"record,answer,ticket,low,high,qlow,qhigh,nanojoule,frame\r\n".as_slice()
+    );
     Ok(())
 }
 
@@ -35,7 +38,7 @@ fn fixed_drive(rt: HostRuntime) -> Result<(), Fail> {
     let mut buffer = [0u8; 100];
     let end = write_line(&mut buffer, 0, &line)?;
     assert!(rt; end == 34);
-    assert!(rt; &buffer[0..end] == b"4294967295,0,65535,2,2,0,0,810,1\r\n");
+    assert!(rt; &buffer[0..end] == b"4294967295,0,65535,2,2,0,0,810,1\r\n".as_slice());
     Ok(())
 }
 
@@ -57,7 +60,7 @@ fn pair(rt: HostRuntime) -> Result<(), Fail> {
     };
     let mut buffer = [0u8; 100];
     let end = write_line(&mut buffer, 0, &line)?;
-    assert!(rt; &buffer[0..end] == b"2,21,0,1,2,5760,3840,5875200,9600\r\n");
+    assert!(rt; &buffer[0..end] == b"2,21,0,1,2,5760,3840,5875200,9600\r\n".as_slice());
     Ok(())
 }
 

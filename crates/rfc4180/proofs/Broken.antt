@@ -1,15 +1,15 @@
 -- Where a field breaks.
-use Rattle.std.proofs.Common.{◌≡◌, ℕ, suc, ◌+◌, ◌-◌, ◌<◌, ◌≤◌, ◌≢◌, ◌⊎◌, List, [], ◌∷◌, ◌++◌, length, get_or, take, drop, sym, refl, ap, ◌∙◌, subst, inl, inr, ⊎_elim, arith}
+use Rattle.std.proofs.Common.{◌≡◌, ℕ, ◌+◌, ◌<◌, ◌≤◌, ◌≢◌, List, [], ◌∷◌, ◌++◌, length, get_or, drop, sym, refl, ap, ◌∙◌, inl, inr, ⊎_elim, arith}
 use Rattle.std.proofs.lemmas.List.Edits.{between_more}
 use Rattle.std.proofs.lemmas.List.{append-nil, append_assoc, append_cancel_left}
 use Rattle.std.specs.List.{between}
-use Rattle.rfc4180.specs.Grammar.{Text, Quotable, Plain, none, text, Quoted, empty, Field, Begins}
+use Rattle.rfc4180.specs.Grammar.{Text, Quotable, Plain, text, Quoted}
 use Rattle.rfc4180.specs.Places.{Follows, PlainAt, QuotedAt, FieldAt, BrokenAt}
 use Rattle.rfc4180.specs.declared.scan.After.{After}
 use Rattle.rfc4180.specs.declared.scan.Found.{Found}
-use Rattle.rfc4180.proofs.Cuts.{cut_first, cut_two, cut_rest}
-use Rattle.rfc4180.proofs.Fields.{plain_stop, quoted_stop, plain_ends, quoted_part_ends, closing_stop, quote_plain, quote_quotable, first_text, after_plain, after_within}
-use Rattle.rfc4180.proofs.Stops.{PlainStop, QuotedStop, plain_same, quoted_same}
+use Rattle.rfc4180.proofs.Cuts.{cut_first, cut_two}
+use Rattle.rfc4180.proofs.Fields.{plain_stop, quoted_stop, plain_ends, quoted_part_ends, quote_plain, quote_quotable, first_text, after_plain, after_within}
+use Rattle.rfc4180.proofs.Stops.{QuotedStop, quoted_same}
 
 last_text : (xs : List ℕ) (c : ℕ) (more : List ℕ) → Plain ((xs ++ c ∷ []) ++ more) → Text c
 last_text [] c more (text h p) = h

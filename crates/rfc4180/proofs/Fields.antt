@@ -1,11 +1,11 @@
 -- The field that starts at a place, and that there is no other.
-use Rattle.std.proofs.Common.{◌≡◌, ℕ, suc, ◌+◌, ◌-◌, ◌<◌, ◌≤◌, ◌≢◌, ◌⊎◌, List, [], ◌∷◌, ◌++◌, length, get_or, take, drop, sym, refl, ap, ◌∙◌, inl, inr, ⊎_elim, arith}
+use Rattle.std.proofs.Common.{◌≡◌, ℕ, ◌+◌, ◌-◌, ◌<◌, ◌≤◌, ◌⊎◌, List, [], ◌∷◌, length, get_or, drop, sym, refl, ap, ◌∙◌, inl, inr, ⊎_elim, arith}
 use Rattle.std.proofs.lemmas.List.Edits.{length-between}
 use Rattle.std.proofs.lemmas.List.{drop_more, drop_all}
 use Rattle.std.proofs.lemmas.Bool.{cases_lt}
 use Rattle.std.specs.List.{between}
-use Rattle.rfc4180.specs.Grammar.{Text, Quotable, Plain, none, text, Quoted, empty, Field, Begins}
-use Rattle.rfc4180.specs.Places.{Follows, PlainAt, QuotedAt, FieldAt, BrokenAt}
+use Rattle.rfc4180.specs.Grammar.{Text, Quotable, Plain, text, Quoted}
+use Rattle.rfc4180.specs.Places.{Follows, PlainAt, QuotedAt, FieldAt}
 use Rattle.rfc4180.specs.declared.scan.After.{After}
 use Rattle.rfc4180.specs.declared.scan.After.TheVariants.{Comma, LineEnd, FileEnd}
 use Rattle.rfc4180.specs.declared.scan.Found.{Found}

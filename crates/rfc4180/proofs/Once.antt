@@ -1,5 +1,5 @@
 -- One record starts at a place, whole or broken.
-use Rattle.std.proofs.Common.{◌≡◌, ℕ, ◌+◌, ◌<◌, ◌≤◌, List, sym, refl, ap, ◌∙◌, subst, ⊎_elim, arith}
+use Rattle.std.proofs.Common.{◌≡◌, ℕ, ◌≤◌, List, sym, ap, ◌∙◌, subst, ⊎_elim, arith}
 use Rattle.std.proofs.lemmas.Bool.{cases_lt}
 use Rattle.rfc4180.specs.Places.{FieldAt, BrokenAt}
 use Rattle.rfc4180.specs.Records.{Before, LastField, RecordAt, BrokenRecord, past}

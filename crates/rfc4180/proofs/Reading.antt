@@ -1,5 +1,5 @@
 -- What the reader of one field answers, on each of its ways.
-use Rattle.std.proofs.Common.{◌≡◌, ℕ, ◌+◌, ◌<◌, ◌≤◌, ◌≢◌, List, length, get_or, Ok, Err, Result, sym, refl, ap, ◌∙◌, inl, inr, arith, MatchResult}
+use Rattle.std.proofs.Common.{◌≡◌, ℕ, ◌+◌, ◌<◌, ◌≤◌, ◌≢◌, List, length, get_or, Ok, Err, Result, sym, ap, ◌∙◌, inl, inr, arith, MatchResult}
 use Rattle.std.specs.List.{between}
 use Rattle.rfc4180.specs.Grammar.{Text, Plain, Quoted}
 use Rattle.rfc4180.specs.Places.{Follows, FieldAt, BrokenAt}

@@ -1,5 +1,5 @@
 -- Where a field's text stops is settled by what follows it.
-use Rattle.std.proofs.Common.{◌≡◌, ℕ, ◌≤◌, ◌≢◌, ◌⊎◌, List, [], ◌∷◌, ◌++◌, sym, refl, ap, ◌∙◌, subst, inl, inr, arith}
+use Rattle.std.proofs.Common.{◌≡◌, ℕ, ◌≢◌, List, [], ◌∷◌, ◌++◌, sym, refl, ◌∙◌, inl, inr, arith}
 use Rattle.rfc4180.specs.Grammar.{Text, Quotable, Plain, none, text, Quoted, empty, byte, pair}
 
 -- no text byte comes first

@@ -1,5 +1,5 @@
 -- Where a field lies in its file, and what follows it.
-use Rattle.std.specs.Prelude.{◌≡◌, ℕ, ◌+◌, ◌<◌, ◌≤◌, ◌⊎◌, List, [], ◌∷◌, length, slice_index}
+use Rattle.std.specs.Prelude.{◌≡◌, ℕ, ◌+◌, ◌<◌, ◌≤◌, ◌⊎◌, List, length, slice_index}
 use Rattle.std.specs.List.{between}
 use Rattle.rfc4180.specs.Grammar.{Plain, Quoted, Begins}
 use Rattle.rfc4180.specs.declared.scan.After.{After}

@@ -1,5 +1,5 @@
 -- A record: one or more fields with commas between them.
-use Rattle.std.specs.Prelude.{◌≡◌, ℕ, suc, ◌+◌, ◌≤◌, min, ◌≢◌, List}
+use Rattle.std.specs.Prelude.{◌≡◌, ℕ, suc, ◌+◌, min, ◌≢◌, List}
 use Rattle.rfc4180.specs.Places.{FieldAt, BrokenAt}
 use Rattle.rfc4180.specs.declared.part.Broken.{Broken}
 use Rattle.rfc4180.specs.declared.part.Part.{Part}

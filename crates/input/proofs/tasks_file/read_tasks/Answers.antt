@@ -1,4 +1,4 @@
-use Rattle.std.proofs.Common.{◌+◌, [], ◌∷◌, vec_items, sym, refl, subst, arith, rules}
+use Rattle.std.proofs.Common.{◌+◌, [], ◌∷◌, sym, refl, subst, arith, rules}
 use Rattle.std.proofs.lemmas.Result.{err_from_is_err_and}
 use Rattle.std.proofs.lemmas.Slice.{pushed}
 use Rattle.input.specs.TaskFiles.{TasksUpTo, header, entry, in_header, in_entry, in_figure}

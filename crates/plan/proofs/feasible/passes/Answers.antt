@@ -1,10 +1,9 @@
-use Rattle.std.proofs.Common.{◌≡◌, ℕ, ◌<◌, ◌≤◌, true, [], length, get_or, vec_items, refl, ⊎_elim, arith, below_more, eq-eqb, eqb-true}
+use Rattle.std.proofs.Common.{◌≡◌, ℕ, ◌<◌, ◌≤◌, [], length, get_or, vec_items, refl, ⊎_elim, arith, below_more, eq-eqb, eqb-true}
 use Rattle.std.proofs.lemmas.Bool.{cases_lt}
 use Rattle.processor.specs.Drives.{peak}
 use Rattle.demand.specs.Charges.{charges}
-use Rattle.demand.specs.Tests.{point, Passes}
+use Rattle.demand.specs.Tests.{point}
 use Rattle.plan.proofs.Tested.{the_set, within, beyond, covered, uncovered, failing}
-use Rattle.plan.proofs.feasible.passes.Given.{Over}
 use Rattle.plan.proofs.feasible.passes.Goals as goal
 
 pub groups-preserved : goal.groups-preserved

@@ -1,4 +1,4 @@
-use Rattle.std.proofs.Common.{◌≡◌, vec_items, sym, refl, subst, arith}
+use Rattle.std.proofs.Common.{◌≡◌, vec_items, sym}
 use Rattle.plan.specs.Feasible.{Feasible}
 use Rattle.processor.specs.declared.drive.Drive.TheVariants.{Fixed}
 use Rattle.plan.specs.Searches.{FixedAt}

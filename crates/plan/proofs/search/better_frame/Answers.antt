@@ -1,4 +1,4 @@
-use Rattle.std.proofs.Common.{◌≡◌, ℕ, None, vec_items, sym, refl, subst, arith}
+use Rattle.std.proofs.Common.{◌≡◌, ℕ, vec_items, subst, arith}
 use Rattle.plan.specs.Feasible.{Feasible}
 use Rattle.plan.specs.Searches.{Improves, Below, PairAt}
 use Rattle.plan.proofs.Improving.{improves_next}

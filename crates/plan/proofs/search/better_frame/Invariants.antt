@@ -1,6 +1,6 @@
-use Rattle.std.proofs.Common.{◌≡◌, true, None, vec_items}
+use Rattle.std.proofs.Common.{◌≡◌, true, vec_items}
 use Rattle.plan.specs.Feasible.{Feasible}
-use Rattle.plan.specs.Searches.{Improves, Below, FixedAt, PairAt}
+use Rattle.plan.specs.Searches.{Improves, Below, PairAt}
 use Rattle.plan.proofs.search.better_frame.Given as goal
 
 abbrev pub invariant-low : goal.invariant-low

@@ -1,4 +1,4 @@
-use Rattle.std.proofs.Common.{◌≡◌, vec_items, sym, refl, subst, arith}
+use Rattle.std.proofs.Common.{vec_items}
 use Rattle.plan.specs.Feasible.{Feasible}
 use Rattle.plan.specs.Searches.{PairAt, SplitIn}
 use Rattle.plan.proofs.Improving.{improves_same}

@@ -1,4 +1,4 @@
-use Rattle.std.proofs.Common.{◌≡◌, None, vec_items, sym, refl, subst, arith}
+use Rattle.std.proofs.Common.{None, vec_items}
 use Rattle.plan.specs.Feasible.{Feasible}
 use Rattle.plan.proofs.Visiting.{seen_next, seen_all}
 use Rattle.plan.proofs.search.cheapest.Goals as goal

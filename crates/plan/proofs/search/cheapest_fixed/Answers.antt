@@ -1,4 +1,4 @@
-use Rattle.std.proofs.Common.{◌≡◌, ℕ, None, vec_items, sym, refl, subst, arith}
+use Rattle.std.proofs.Common.{◌≡◌, ℕ, None, vec_items, subst, arith}
 use Rattle.plan.specs.Feasible.{Feasible}
 use Rattle.plan.specs.Searches.{Improves, Below, FixedAt}
 use Rattle.plan.proofs.Improving.{improves_next}

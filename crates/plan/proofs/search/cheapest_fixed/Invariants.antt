@@ -1,6 +1,6 @@
 use Rattle.std.proofs.Common.{◌≡◌, true, None, vec_items}
 use Rattle.plan.specs.Feasible.{Feasible}
-use Rattle.plan.specs.Searches.{Improves, Below, FixedAt, PairAt}
+use Rattle.plan.specs.Searches.{Improves, Below, FixedAt}
 use Rattle.plan.proofs.search.cheapest_fixed.Given as goal
 
 abbrev pub invariant-modes : goal.invariant-modes

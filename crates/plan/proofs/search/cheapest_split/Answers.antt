@@ -1,4 +1,4 @@
-use Rattle.std.proofs.Common.{◌≡◌, ℕ, ◌*◌, ◌<◌, true, false, Some, None, vec_items, Option, sym, refl, subst, arith, below_more, MatchOption}
+use Rattle.std.proofs.Common.{◌≡◌, ℕ, vec_items, refl, subst, arith, below_more}
 use Rattle.plan.specs.Feasible.{Feasible}
 use Rattle.processor.specs.declared.drive.Drive.TheVariants.{Pair as Turns}
 use Rattle.processor.specs.declared.drive.Pair.{Pair}

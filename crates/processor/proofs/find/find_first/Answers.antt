@@ -1,4 +1,4 @@
-use Rattle.std.proofs.Common.{length, sym, refl, arith, eq-eqb, true-eqb, false-eqb}
+use Rattle.std.proofs.Common.{length, refl, arith, eq-eqb, true-eqb, false-eqb}
 use Rattle.processor.specs.Tables.{has_number}
 use Rattle.processor.proofs.Finds.{empty_list, front_found}
 use Rattle.processor.proofs.find.find_first.Goals as goal

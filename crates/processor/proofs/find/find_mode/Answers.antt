@@ -1,4 +1,4 @@
-use Rattle.std.proofs.Common.{sym, ap, arith, eq-eqb, ne_eqb}
+use Rattle.std.proofs.Common.{sym, arith, eq-eqb, ne_eqb}
 use Rattle.processor.specs.Tables.{has_number}
 use Rattle.processor.proofs.Finds.{first_next, first_found, first_past}
 use Rattle.processor.proofs.find.find_mode.Goals as goal

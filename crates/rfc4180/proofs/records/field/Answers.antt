@@ -1,4 +1,4 @@
-use Rattle.std.proofs.Common.{◌≡◌, ◌+◌, ◌<◌, min, length, refl, arith, rules}
+use Rattle.std.proofs.Common.{◌+◌, min, length, refl, arith, rules}
 use Rattle.rfc4180.specs.Records.{start}
 use Rattle.rfc4180.proofs.Counting.{before_more, stuck_last, stuck_broken, missing_broken, numbered}
 use Rattle.rfc4180.proofs.records.field.Goals as goal

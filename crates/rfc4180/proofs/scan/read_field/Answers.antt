@@ -1,4 +1,4 @@
-use Rattle.std.proofs.Common.{◌≡◌, ◌<◌, min, ◌≢◌, length, get_or, subst, arith}
+use Rattle.std.proofs.Common.{◌<◌, min, ◌≢◌, length, get_or, subst, arith}
 use Rattle.rfc4180.specs.Places.{BrokenAt}
 use Rattle.rfc4180.proofs.Broken.{unclosed_broken}
 use Rattle.rfc4180.proofs.Reading.{plain_read, quoted_read, at_start}

@@ -1,4 +1,4 @@
-use Rattle.std.proofs.Common.{◌<◌, ◌≤◌, map, length, get_or, set, vec_items, sym, refl, ap, subst, arith, le-ltb, lt-ltb}
+use Rattle.std.proofs.Common.{◌<◌, ◌≤◌, map, length, get_or, vec_items, sym, refl, ap, subst, arith, le-ltb, lt-ltb}
 use lib.ListN.{length-map}
 use Rattle.demand.specs.Ranks.{Distinct}
 use Rattle.demand.specs.Figures.{figures_of, with_work, no_figures}

@@ -1,6 +1,5 @@
 use Rattle.std.proofs.Common.{◌+◌, ◌*◌, ◌≤◌, ◌∙◌, ap₂, arith}
 use Rattle.processor.specs.Limits.{top_speed}
-use Rattle.processor.specs.Drives.{peak}
 use Rattle.demand.specs.Limits.{longest_fixed}
 use Rattle.demand.specs.Counts.{peak_limit}
 use Rattle.processor.proofs.Products.{product_le}

@@ -1,6 +1,5 @@
 use Rattle.std.proofs.Common.{ℕ, sym, ◌∙◌}
 use Rattle.std.proofs.lemmas.Option.{MatchOption-at_none}
-use Rattle.input.specs.Cells.{Cell}
 use Rattle.input.specs.Numbers.{Spells}
 use Rattle.input.proofs.Cells.{no_number}
 use Rattle.input.proofs.line.Line.number_in.Goals as goal

@@ -1,4 +1,4 @@
-use Rattle.std.proofs.Common.{◌≡◌, List, [], ◌∷◌, ◌++◌, vec_items, sym, refl, subst}
+use Rattle.std.proofs.Common.{List, vec_items, sym, refl, subst}
 use Rattle.demand.specs.declared.task.Task.{Task}
 use Rattle.plan.specs.Admitting.{Sound}
 use Rattle.plan.specs.Feasible.{Feasible}

@@ -1,4 +1,4 @@
-use Rattle.std.proofs.Common.{◌≡◌, vec_items, Option, sym, ap, ◌∙◌, subst, arith, MatchOption}
+use Rattle.std.proofs.Common.{vec_items, Option, sym, ap, ◌∙◌, subst, arith, MatchOption}
 use Rattle.processor.specs.Candidates.{Candidate, Named}
 use Rattle.processor.specs.Tables.{mode_of}
 use Rattle.processor.specs.declared.drive.Drive.{Drive}
