@@ -20,13 +20,13 @@ records-init c = (
 pub returns-in_err-line : goal.returns-in_err-line
 returns-in_err-line c =
     let p = err_from_is_err_and c.from_residual-in_err-line.result c.from_residual-in_err-line.ensures.1 in
-    rw (p.1, p.2) (in_entry c.records.invariant.3 c.records-test.true c.in_err-line.ensures.reads)
+    rw (p.1, p.2) (in_entry c.records.invariant.3 (omega (arith, c.records-test.true)) c.in_err-line.ensures.reads)
 
 pub returns-in_err-figures : goal.returns-in_err-figures
 returns-in_err-figures c =
     let p = err_from_is_err_and c.from_residual-in_err-figures.result c.from_residual-in_err-figures.ensures.1 in
     rw (p.1, p.2)
-    (in_figure c.in_ok-line.line c.records.invariant.3 c.records-test.true c.in_ok-line.ensures.reads c.in_err-figures.ensures)
+    (in_figure c.in_ok-line.line c.records.invariant.3 (omega (arith, c.records-test.true)) c.in_ok-line.ensures.reads c.in_err-figures.ensures)
 
 pub returns-in_err-push : goal.returns-in_err-push
 returns-in_err-push c =
@@ -40,5 +40,5 @@ records-preserved c = (
   c.records.invariant.2,
   subst (λ ts. TasksUpTo c.args.file.now (c.records.number + 1) c.in_ok-line.line.record.next ts)
       (sym (pushed (c.in_ok-figures.figures ∷ []) refl c.in_ok-push.was c.push.ensures.items))
-      (entry c.in_ok-line.line c.in_ok-figures.figures c.records.invariant.3 c.records-test.true c.in_ok-line.ensures.reads c.in_ok-figures.ensures),
+      (entry c.in_ok-line.line c.in_ok-figures.figures c.records.invariant.3 (omega (arith, c.records-test.true)) c.in_ok-line.ensures.reads c.in_ok-figures.ensures),
 )
