@@ -1,8 +1,7 @@
 pub mod Products
 pub mod Gains
 pub mod Intervals
-pub mod Finds
-pub mod Pigeons
+pub mod Listed
 pub mod Growth
 pub mod Longest
 pub mod Streams

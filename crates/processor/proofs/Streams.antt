@@ -9,7 +9,7 @@ use Rattle.processor.specs.declared.drive.Pair.{Pair}
 use Rattle.processor.specs.declared.mode.Mode.{Mode}
 use Rattle.processor.specs.declared.splits.Splits.{Splits}
 use Rattle.processor.specs.declared.table.Processor.{Processor}
-use Rattle.processor.proofs.Finds.{first_passes}
+use Rattle.processor.proofs.Listed.{found_passes}
 
 -- a pair is a lawful split of its frame
 pub pair_lawful : (p : Pair) → LawfulSplit p.low p.high p.up p.down p.frame p.high_time
@@ -23,7 +23,7 @@ pair_lawful p =
 
 -- the mode that is found has the number
 pub found_number : (t : Processor) (n : ℕ) (m : Mode) → mode_of n (vec_items t.modes) ≡ Some m → m.number ≡ n
-found_number t n m e = eqb-true m.number n (first_passes (has_number n) (vec_items t.modes) m e)
+found_number t n m e = eqb-true m.number n (found_passes (has_number n) (vec_items t.modes) m e)
 
 the_same : {X : Type 0} (o : Option X) (x y : X) → o ≡ Some x → o ≡ Some y → x ≡ y
 the_same o x y e f = cc

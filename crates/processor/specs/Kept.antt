@@ -1,26 +1,25 @@
 -- What a filled table keeps.
-use Rattle.std.specs.Prelude.{ℕ, Bool, false, cond, not, List, nat_lt}
+use Rattle.std.specs.Prelude.{◌≡◌, ℕ, ◌≤◌, true, List, All, AllPairs, ◌≢◌}
 use Rattle.processor.specs.Limits.{longest_frame}
-use Rattle.processor.specs.Lists.{distinct}
-use Rattle.processor.specs.Tables.{has_number, leads, lasts, has_mode}
+use Rattle.processor.specs.Tables.{has_mode}
 use Rattle.processor.specs.declared.mode.Mode.{Mode}
 use Rattle.processor.specs.declared.mode.Switch.{Switch}
 
 -- no mode number is listed twice
-abbrev pub modes_differ : List Mode → Bool
-modes_differ ms = distinct (λ m n. has_number n.number m) ms
+abbrev pub ModesDiffer : List Mode → Type 0
+ModesDiffer ms = AllPairs (λ m n. m.number ≢ n.number) ms
 
 -- no switch is listed twice
-abbrev pub switches_differ : List Switch → Bool
-switches_differ ss = distinct (λ s t. leads t.from t.to s) ss
+abbrev pub SwitchesDiffer : List Switch → Type 0
+SwitchesDiffer ss = AllPairs (λ s t. s.from ≡ t.from → s.to ≢ t.to) ss
 
--- a switch is between listed modes
-abbrev pub between : List Mode → Switch → Bool
-between ms s = cond (has_mode s.from ms) (has_mode s.to ms) false
+-- each switch is between listed modes
+abbrev pub Between : List Mode → List Switch → Type 0
+Between ms ss = All (λ s. (has_mode s.from ms ≡ true) × (has_mode s.to ms ≡ true)) ss
 
 -- no frame is listed twice, and each is within its limits
-abbrev pub frames_differ : List ℕ → Bool
-frames_differ ps = distinct (λ p q. lasts q p) ps
+abbrev pub FramesDiffer : List ℕ → Type 0
+FramesDiffer ps = AllPairs (λ p q. p ≢ q) ps
 
-abbrev pub frame_fits : ℕ → Bool
-frame_fits p = cond (nat_lt p 1) false (not (nat_lt longest_frame p))
+abbrev pub FramesFit : List ℕ → Type 0
+FramesFit ps = All (λ p. (1 ≤ p) × (p ≤ longest_frame)) ps

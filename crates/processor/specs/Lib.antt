@@ -1,7 +1,6 @@
 pub mod Limits
 pub mod Refusals
 pub mod Drives
-pub mod Lists
 pub mod Tables
 pub mod Kept
 pub mod Pairs
@@ -9,4 +8,4 @@ pub mod Made
 pub mod Candidates
 pub mod Intervals
 pub mod Costs
-pub mod Frames
+pub mod CostOrder

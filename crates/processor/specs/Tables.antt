@@ -1,8 +1,8 @@
 -- What a processor table lists, and what it answers to an entry.
-use Rattle.std.specs.Prelude.{◌≡◌, ℕ, ◌<◌, ◌≤◌, Bool, true, false, cond, List, [], ◌∷◌, ◌++◌, length, is_some, Ok, Err, Option, Result, MatchOption, ◌==◌, nat_lt}
+use Rattle.std.specs.Prelude.{◌≡◌, ℕ, ◌<◌, ◌≤◌, Bool, true, false, cond, List, [], ◌∷◌, ◌++◌, length, find, is_some, Ok, Err, Option, Result, MatchOption, ◌==◌, nat_lt}
+use Rattle.std.specs.List.{list_any}
 use Rattle.std.specs.Option.{option_map}
 use Rattle.processor.specs.Limits.{last_mode, top_speed, top_power, longest_switch, longest_frame, most_frames}
-use Rattle.processor.specs.Lists.{first}
 use Rattle.processor.specs.declared.mode.Mode.{Mode}
 use Rattle.processor.specs.declared.mode.Switch.{Switch}
 use Rattle.processor.specs.declared.refusal.Refusal.{Refusal}
@@ -32,11 +32,11 @@ lasts p q = q == p
 
 -- the mode of a number
 abbrev pub mode_of : ℕ → List Mode → Option Mode
-mode_of n ms = first (has_number n) ms
+mode_of n ms = find (has_number n) ms
 
 -- the time of the switch from one mode to another; without one the switch is impossible
 abbrev pub time_of : ℕ → ℕ → List Switch → Option ℕ
-time_of a b ss = option_map (λ s. s.time) (first (leads a b) ss)
+time_of a b ss = option_map (λ s. s.time) (find (leads a b) ss)
 
 -- a mode is listed
 abbrev pub has_mode : ℕ → List Mode → Bool
@@ -46,7 +46,7 @@ abbrev pub has_switch : ℕ → ℕ → List Switch → Bool
 has_switch a b ss = is_some (time_of a b ss)
 
 abbrev pub has_frame : ℕ → List ℕ → Bool
-has_frame p ps = is_some (first (lasts p) ps)
+has_frame p ps = list_any (lasts p) ps
 
 -- the longest listed frame that is shorter than a bound, or none where no frame is
 abbrev pub LongestBelow : ℕ → List ℕ → Option ℕ → Type 0

@@ -1,23 +1,59 @@
 ghost use Rattle.std.specs.Prelude.{◌≡◌, ◌*◌, ◌<◌, ◌≤◌};
 ghost use Rattle.processor.specs.Drives.{peak, energy_of, span_of};
 ghost use Rattle.processor.specs.declared.drive.Drive.TheVariants.{Pair as Turns};
-ghost use Rattle.processor.specs.Costs.{Cheaper, Even};
+ghost use Rattle.processor.specs.Costs.{Cheaper, Even, cost_cmp};
+ghost use Rattle.processor.specs.CostOrder.{cost_total};
 ghost use Rattle.processor.specs.Limits.{top_power};
-ghost use Rattle.std.specs.Ordering.{MatchOrdering};
+ghost use Rattle.std.specs.Ordering.{MatchOrdering, as_partial_cmp, eq_by_cmp};
+ghost use Rattle.std.specs.Cmp.{eq_by_cmp_equiv, partial_equiv_from_equiv, partial_order_from_total};
+ghost use Rattle.std.proofs.Common.{rules};
 
 use crate::cost::Cost;
 use crate::drive::{Drive, Pair};
 use std::cmp::Ordering;
 
-impl Cost {
-    // The order of the two fractions, by their cross products.
-    pub fn compare(&self, other: &Cost) -> Ordering
-        ensures { MatchOrdering result (Cheaper self.now other.now) (Even self.now other.now) (Cheaper other.now self.now) }
+// The order of the two fractions, by their cross products.
+impl Ord for Cost {
+    ghost cmp = { cost_cmp };
+
+    ghost total = { cost_total };
+
+    ghost matches_partial_cmp = { Prim.search rules };
+
+    ghost matches_eq = { Prim.search rules };
+
+    fn cmp(&self, other: &Cost) -> Ordering
+        ensures value { result ≡ cost_cmp self.now other.now }
+        ensures means { MatchOrdering result (Cheaper self.now other.now) (Even self.now other.now) (Cheaper other.now self.now) }
     {
         let here = self.energy * u64::from(other.frame);
         let there = other.energy * u64::from(self.frame);
         here.cmp(&there)
     }
+}
+
+impl PartialOrd for Cost {
+    ghost partial_cmp = { as_partial_cmp cost_cmp };
+
+    ghost laws = { partial_order_from_total cost_total };
+
+    fn partial_cmp(&self, other: &Cost) -> Option<Ordering> {
+        Some(self.cmp(other))
+    }
+}
+
+impl PartialEq for Cost {
+    ghost eq = { eq_by_cmp cost_cmp };
+
+    ghost laws = { partial_equiv_from_equiv (eq_by_cmp_equiv cost_total) };
+
+    fn eq(&self, other: &Cost) -> bool {
+        self.cmp(other).is_eq()
+    }
+}
+
+impl Eq for Cost {
+    ghost laws = { eq_by_cmp_equiv cost_total };
 }
 
 impl Pair {

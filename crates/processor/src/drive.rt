@@ -5,7 +5,7 @@ use crate::mode::Mode;
 
 // Two modes in turn. Each frame begins with the switch down and the low mode, for low_time together; then come the
 // switch up and the high mode, for high_time together. Every pair that exists is lawful: it gains over its low mode.
-#[derive(Clone, Copy)]
+#[derive(Clone, Copy, PartialEq, Eq, Debug)]
 pub struct Pair {
     pub low: Mode,
     pub high: Mode,
@@ -25,7 +25,7 @@ pub struct Pair {
 }
 
 // How the processor is driven: one mode for good, or two modes in turn.
-#[derive(Clone, Copy)]
+#[derive(Clone, Copy, PartialEq, Eq, Debug)]
 pub enum Drive {
     Fixed(Mode),
     Pair(Pair),

@@ -4,7 +4,6 @@ pub mod cost;
 pub mod costing;
 pub mod drive;
 pub mod entries;
-mod find;
 pub mod interval;
 pub mod lookup;
 pub mod make;

@@ -1,4 +1,5 @@
-ghost use Rattle.std.specs.Prelude.{◌≡◌, ℕ, [], length, MatchOption, nat_lt};
+ghost use Rattle.std.specs.Prelude.{◌≡◌, ℕ, [], length, filter, max, MatchOption, nat_lt};
+ghost use Rattle.std.specs.List.{reduce};
 ghost use Rattle.processor.specs.Candidates.{Candidate, Named, OnFrame};
 ghost use Rattle.processor.specs.Intervals.{Within, SplitOf};
 ghost use Rattle.processor.specs.declared.drive.Pair.{Pair};
@@ -6,52 +7,62 @@ ghost use Rattle.processor.specs.Tables.{mode_of, time_of, has_frame, LongestBel
 ghost use Rattle.processor.specs.declared.drive.Drive.TheVariants.{Fixed};
 
 use crate::drive::Drive;
-use crate::find::{find_first, find_frame, find_longest, find_mode, find_time};
 use crate::mode::Mode;
 use crate::splits::Splits;
 use crate::table::Processor;
+
+// The largest of the numbers that are smaller than a bound.
+fn largest_below(numbers: &[u32], bound: u32) -> Option<u32>
+    ensures { result ≡ reduce max (filter (λ n. nat_lt n bound) numbers.now) }
+{
+    numbers.iter().copied().filter(|n| *n < bound).max()
+}
 
 impl Processor {
     // Whether a mode is listed at all.
     pub fn has_mode(&self) -> bool
         ensures { result ≡ nat_lt 0 (length self.now.modes.items) }
     {
-        self.modes.len() > 0
+        !self.modes.is_empty()
     }
 
     // The mode that was listed first.
     pub fn first_mode(&self) -> Option<Mode>
         ensures { MatchOption result (self.now.modes.items ≡ []) (λ m. Candidate self.now (Fixed m)) }
     {
-        find_first(self.modes.as_slice())
+        self.modes.first().copied()
     }
 
     // The mode of a number.
     pub fn mode(&self, number: u32) -> Option<Mode>
         ensures { result ≡ mode_of number self.now.modes.items }
     {
-        find_mode(self.modes.as_slice(), number)
+        self.modes
+            .iter()
+            .find(|mode| mode.number == number)
+            .copied()
     }
 
     // The time of the switch from one mode to another; without it the switch is impossible.
     pub fn switch_time(&self, from: u32, to: u32) -> Option<u32>
         ensures { result ≡ time_of from to self.now.switches.items }
     {
-        find_time(self.switches.as_slice(), from, to)
+        let switch = self.switches.iter().find(|switch| switch.leads(from, to))?;
+        Some(switch.time)
     }
 
     // Whether a frame is listed.
     pub fn has_frame(&self, length: u32) -> bool
         ensures { result ≡ has_frame length self.now.frames.items }
     {
-        find_frame(self.frames.as_slice(), length)
+        self.frames.contains(&length)
     }
 
     // The longest listed frame that is shorter than the bound.
     pub fn longest_frame_below(&self, bound: u32) -> Option<u32>
         ensures { LongestBelow bound self.now.frames.items result }
     {
-        find_longest(self.frames.as_slice(), bound)
+        largest_below(&self.frames, bound)
     }
 
     // The splits of a listed frame between two listed modes with both switches listed, where there is one.

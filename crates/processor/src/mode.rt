@@ -20,7 +20,7 @@ pub const LONGEST_FRAME: u32 = 20_000;
 pub const MOST_FRAMES: usize = 8;
 
 // An operating point of the processor: its number, its speed in MHz and its power in mW.
-#[derive(Clone, Copy)]
+#[derive(Clone, Copy, PartialEq, Eq, Debug)]
 pub struct Mode {
     pub number: u32,
     pub speed: u32,
@@ -32,7 +32,7 @@ pub struct Mode {
 }
 
 // The way from one mode to another, in microseconds.
-#[derive(Clone, Copy)]
+#[derive(Clone, Copy, PartialEq, Eq, Debug)]
 pub struct Switch {
     pub from: u32,
     pub to: u32,
@@ -43,4 +43,15 @@ pub struct Switch {
     ghost numbered_to: { to ≤ last_mode },
     ghost apart: { from ≢ to },
     ghost short: { time ≤ longest_switch },
+}
+
+impl Switch {
+    ghost use Rattle.processor.specs.Tables.{leads};
+
+    // Whether it is the switch from one mode to another.
+    pub(crate) fn leads(&self, from: u32, to: u32) -> bool
+        ensures { result ≡ leads from to self.now }
+    {
+        self.from == from && self.to == to
+    }
 }

@@ -4,7 +4,7 @@ ghost use Rattle.processor.specs.Limits.{longest_switch, longest_frame};
 use crate::mode::Mode;
 
 // All lawful splits of a frame between two modes: the high times from least to most.
-#[derive(Clone, Copy)]
+#[derive(Clone, Copy, PartialEq, Eq, Debug)]
 pub struct Splits {
     pub low: Mode,
     pub high: Mode,

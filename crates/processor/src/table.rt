@@ -1,7 +1,6 @@
-ghost use Rattle.std.specs.Prelude.{◌≡◌, ◌≤◌, true, [], IfOk, vec_len, vec_capacity};
-ghost use Rattle.processor.specs.Kept.{modes_differ, switches_differ, between, frames_differ, frame_fits};
+ghost use Rattle.std.specs.Prelude.{◌≡◌, ◌≤◌, [], IfOk, vec_len, vec_capacity};
+ghost use Rattle.processor.specs.Kept.{ModesDiffer, SwitchesDiffer, Between, FramesDiffer, FramesFit};
 ghost use Rattle.processor.specs.Limits.{last_mode, most_switches, most_frames};
-ghost use Rattle.processor.specs.Lists.{all};
 
 use crate::mode::{LAST_MODE, MOST_FRAMES, Mode, Switch};
 use std::alloc::{AllocError, Global};
@@ -17,14 +16,14 @@ pub struct Processor {
     pub(crate) switches: Vec<Switch>,
     pub(crate) frames: Vec<u32>,
     ghost modes_room: { last_mode ≤ vec_capacity modes },
-    ghost modes_apart: { modes_differ modes.items ≡ true },
+    ghost modes_apart: { ModesDiffer modes.items },
     ghost switches_room: { most_switches ≤ vec_capacity switches },
-    ghost switches_apart: { switches_differ switches.items ≡ true },
-    ghost switches_between: { all (between modes.items) switches.items ≡ true },
+    ghost switches_apart: { SwitchesDiffer switches.items },
+    ghost switches_between: { Between modes.items switches.items },
     ghost frames_room: { most_frames ≤ vec_capacity frames },
     ghost frames_few: { vec_len frames ≤ most_frames },
-    ghost frames_apart: { frames_differ frames.items ≡ true },
-    ghost frames_fit: { all frame_fits frames.items ≡ true },
+    ghost frames_apart: { FramesDiffer frames.items },
+    ghost frames_fit: { FramesFit frames.items },
 }
 
 impl Processor {

@@ -1,6 +1,5 @@
-use Rattle.std.proofs.Common.{◌≡◌, true, List, is_some, vec_items, sym, refl, ap, ◌∙◌, subst, arith, rules}
-use Rattle.processor.specs.Kept.{modes_differ, between}
-use Rattle.processor.specs.Lists.{all}
+use Rattle.std.proofs.Common.{List, is_some, vec_items, sym, refl, ap, ◌∙◌, subst, arith, rules}
+use Rattle.processor.specs.Kept.{ModesDiffer, Between}
 use Rattle.processor.specs.declared.mode.Mode.{Mode}
 use Rattle.processor.proofs.Growth.{room_for_mode, modes_more, between_more}
 use Rattle.processor.proofs.table.Processor.add_mode.Goals as goal
@@ -14,8 +13,8 @@ push_reserved-requires c =
 pub invariant_of-self : goal.invariant_of-self
 invariant_of-self c =
     let s = c.args.self.now in
-    let D : List Mode → Type 0 = λ ms. modes_differ ms ≡ true in
-    let B : List Mode → Type 0 = λ ms. all (between ms) (vec_items s.switches) ≡ true in
+    let D : List Mode → Type 0 = ModesDiffer in
+    let B : List Mode → Type 0 = λ ms. Between ms (vec_items s.switches) in
     let i = sym c.push_reserved.ensures.items in
     record {
       modes_room = omega (arith, c.push_reserved.ensures.capacity, s.modes_room);

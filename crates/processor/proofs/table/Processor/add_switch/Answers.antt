@@ -1,9 +1,9 @@
 use Rattle.std.proofs.Common.{◌≡◌, true, List, is_some, vec_items, sym, refl, ap, ◌∙◌, subst, arith, rules}
-use Rattle.processor.specs.Kept.{switches_differ, between}
-use Rattle.processor.specs.Lists.{all}
+use Rattle.processor.specs.Kept.{SwitchesDiffer, Between}
 use Rattle.processor.specs.declared.mode.Switch.{Switch}
-use Rattle.processor.proofs.Growth.{has_mode_limits, room_for_switch, switches_more, between_these, listed_mode}
-use Rattle.processor.proofs.Pigeons.{all_push}
+use Rattle.processor.proofs.Growth.{has_mode_limits, room_for_switch, switches_more, listed_mode}
+use Rattle.std.proofs.lemmas.List.Elements.{All-push}
+use Rattle.processor.specs.Tables.{has_mode}
 use Rattle.processor.proofs.table.Processor.add_switch.Goals as goal
 
 pub invariant_of-push_reserved : goal.invariant_of-push_reserved
@@ -27,8 +27,8 @@ pub invariant_of-self : goal.invariant_of-self
 invariant_of-self c =
     let s = c.args.self.now in
     let ms = vec_items s.modes in
-    let D : List Switch → Type 0 = λ ss. switches_differ ss ≡ true in
-    let B : List Switch → Type 0 = λ ss. all (between ms) ss ≡ true in
+    let D : List Switch → Type 0 = SwitchesDiffer in
+    let B : List Switch → Type 0 = Between ms in
     let i = sym c.push_reserved.ensures.items in
     record {
       modes_room = s.modes_room;
@@ -36,10 +36,10 @@ invariant_of-self c =
       switches_room = omega (arith, c.push_reserved.ensures.capacity, s.switches_room);
       switches_apart = subst D i (switches_more (vec_items s.switches) _ s.switches_apart (sym (c.if-is_some.ensures ∙ ap is_some c.switch_time.ensures)));
       switches_between = subst B i
-          (all_push (between ms) (vec_items s.switches) _ s.switches_between
-          (between_these ms c.args.from c.args.to
-          (listed_mode c.args.from ms c.mode.result c.if-is_none.ensures c.mode.ensures)
-          (listed_mode c.args.to ms c.mode-2.result c.if-is_none-2.ensures c.mode-2.ensures)));
+          (All-push (λ t. (has_mode t.from ms ≡ true) × (has_mode t.to ms ≡ true)) (vec_items s.switches) _ s.switches_between (
+            listed_mode c.args.from ms c.mode.result c.if-is_none.ensures c.mode.ensures,
+            listed_mode c.args.to ms c.mode-2.result c.if-is_none-2.ensures c.mode-2.ensures,
+          ));
       frames_room = s.frames_room;
       frames_few = s.frames_few;
       frames_apart = s.frames_apart;
