@@ -1,6 +1,5 @@
 -- The answers of an admission, by what the table and the search say.
-use Rattle.std.proofs.Common.{◌≡◌, ℕ, ◌+◌, ◌-◌, ◌<◌, ◌≤◌, Bool, true, false, cond, ltb, List, [], ◌∷◌, ◌++◌, length, take, Some, None, Ok, Err, vec_items, Result, sym, refl, ap, ◌∙◌, subst, inl, inr, ⊎_elim, arith, length-append, le-ltb, lt-ltb, eq-eqb}
-use Rattle.std.proofs.lemmas.List.{take_at}
+use Rattle.std.proofs.Common.{◌≡◌, ℕ, ◌+◌, ◌<◌, ◌≤◌, Bool, true, false, cond, ltb, List, [], ◌∷◌, ◌++◌, length, Some, None, Ok, Err, vec_items, Result, sym, refl, ap, ◌∙◌, subst, inl, inr, ⊎_elim, arith, le-ltb, lt-ltb, eq-eqb}
 use Rattle.std.proofs.lemmas.Bool.{cases_Bool}
 use Rattle.processor.specs.Candidates.{Candidate}
 use Rattle.processor.specs.Tables.{mode_of}
@@ -17,13 +16,6 @@ use Rattle.demand.specs.declared.task.Figures.{Figures}
 use Rattle.demand.specs.declared.task.Task.{Task}
 use Rattle.plan.specs.Feasible.{NoCandidate}
 use Rattle.plan.specs.Admitting.{last_ticket, turned_away, Admits, Settles}
-
--- a push and a pop after it leave the list as it was
-pub popped : {X : Type 0} (xs ys zs : List X) (x : X) → ys ≡ xs ++ x ∷ [] → zs ≡ take (length ys - 1) ys → zs ≡ xs
-popped xs ys zs x e f =
-    let l = ap length e ∙ length-append xs (x ∷ []) in
-    let k : length xs ≡ length ys - 1 = omega arith in
-    f ∙ ap (take (length ys - 1)) e ∙ take_at xs (x ∷ []) (length ys - 1) k
 
 -- what the table answers to one task more
 abbrev added : List Task → Task → Result (Unit {0}) Refusal
@@ -91,7 +83,3 @@ some_candidate t h = front (vec_items t.modes) h
     front : (ms : List Mode) → 0 < length ms → (m : Mode) × (mode_of m.number ms ≡ Some m)
     front [] l = absurd (omega arith)
     front (m ∷ ms) l = (m, let e = eq-eqb m.number m.number refl in rw e)
-
-pub empty_list : {X : Type 0} (xs : List X) → length xs ≡ 0 → xs ≡ []
-empty_list [] e = refl
-empty_list (x ∷ xs) e = absurd (omega arith)

@@ -1,4 +1,5 @@
-ghost use Rattle.std.specs.Prelude.{◌≡◌, ℕ, true, false, if◌then◌else◌, Decides, nat_le, nat_lt};
+ghost use Rattle.std.specs.Prelude.{◌≡◌, ℕ, true, false, if◌then◌else◌, Decides, MatchOption, nat_le, nat_lt};
+ghost use Rattle.processor.specs.declared.drive.Drive.{Drive};
 ghost use Rattle.supply.specs.Laws.{longest_window};
 ghost use Rattle.plan.specs.Feasible.{Feasible};
 
@@ -7,36 +8,66 @@ use demand::set::TaskSet;
 use processor::drive::Drive;
 use supply::platform::Platform;
 
-// Whether the work of a point is supplied by its time.
-fn covers<P: Platform>(platform: &P, drive: &Drive, time: u32, work: u64) -> bool
-    ensures { result ≡ (if nat_lt longest_window time then false else nat_le work (P.Platform.supply platform.now drive.now time)) }
-{
-    match platform.supplied(drive, time) {
-        Ok(cycles) => work <= cycles,
-        Err(_) => false,
+// A condition on drives that can be tested.
+pub trait Condition {
+    ghost meets: { Self → Drive → Type 0 };
+
+    // Whether a drive meets it.
+    fn meets(&self, drive: &Drive) -> bool
+        ensures { Decides result (meets self.now drive.now) };
+}
+
+// That a set of tasks, one that the policy can decide, meets its deadlines on a platform.
+#[derive(Drop)]
+pub struct Trial<'a, P: Platform, Q: Policy> {
+    platform: &'a P,
+    policy: &'a Q,
+    set: &'a TaskSet,
+    ghost spanned: { Q.Policy.span policy.now set.now.tasks.items ≡ true },
+}
+
+impl<'a, P: Platform, Q: Policy> Trial<'a, P, Q> {
+    // The condition, where the policy can decide the set.
+    pub fn new(platform: &'a P, policy: &'a Q, set: &'a TaskSet) -> Option<Trial<'a, P, Q>>
+        ensures { MatchOption result (Q.Policy.span policy.now set.now.tasks.items ≡ false) (λ t. (t.platform.now ≡ platform.now) × (t.policy.now ≡ policy.now) × (t.set.now ≡ set.now)) }
+    {
+        if !policy.spans(set) {
+            return None;
+        }
+        Some(Trial {
+            platform,
+            policy,
+            set,
+        })
+    }
+
+    // Whether the work of a point is supplied by its time.
+    fn covers(&self, drive: &Drive, time: u32, work: u64) -> bool
+        ensures { result ≡ (if nat_lt longest_window time then false else nat_le work (P.Platform.supply self.now.platform.now drive.now time)) }
+    {
+        self.platform
+            .supplied(drive, time)
+            .is_ok_and(|cycles| work <= cycles)
     }
 }
 
-// Whether the set meets its deadlines under the drive: each group of the policy's points has one that is supplied.
-pub fn passes<P: Platform, Q: Policy>(
-    platform: &P,
-    policy: &Q,
-    set: &TaskSet,
-    drive: &Drive,
-) -> bool
-    ensures { Q.Policy.span policy.now set.now.tasks.items ≡ true → Decides result (Feasible (P.Platform.supply platform.now) (Q.Policy.full policy.now) set.now.tasks.items drive.now) }
-{
-    'groups: for group in 0..u32::MAX {
-        'points: for index in 0..u32::MAX {
-            let Some((time, work)) = policy.point(set, drive, group, index) else {
-                // No point is left: the group has failed, unless there is no such group.
-                return index == 0;
-            };
-            if covers(platform, drive, time, work) {
-                continue 'groups;
+impl<P: Platform, Q: Policy> Condition for Trial<'_, P, Q> {
+    ghost meets = { λ t d. Feasible (P.Platform.supply t.platform.now) (Q.Policy.full t.policy.now) t.set.now.tasks.items d };
+
+    // Each group of the policy's points has one that is supplied.
+    fn meets(&self, drive: &Drive) -> bool {
+        'groups: for group in 0..u32::MAX {
+            'points: for index in 0..u32::MAX {
+                let Some((time, work)) = self.policy.point(self.set, drive, group, index) else {
+                    // No point is left: the group has failed, unless there is no such group.
+                    return index == 0;
+                };
+                if self.covers(drive, time, work) {
+                    continue 'groups;
+                }
             }
+            return false;
         }
-        return false;
+        true
     }
-    true
 }

@@ -3,34 +3,35 @@ ghost use Rattle.processor.specs.declared.refusal.Refusal.TheVariants.{NoMode, M
 ghost use Rattle.plan.specs.Admitting.{Sound};
 ghost use Rattle.plan.specs.Feasible.{Feasible};
 
-use crate::opening::{Opening, Unopened};
+use crate::feasible::Trial;
+use crate::opening::Opening;
 use crate::plan::Plan;
 use crate::search::cheapest;
 use crate::table::TaskTable;
 use demand::policy::Policy;
-use processor::refusal::Refusal;
+use processor::refusal::{Refusal, Refused};
 use processor::table::Processor;
 use std::alloc::Global;
 use supply::platform::Platform;
 
 impl Opening {
-    // Whether a plan may be opened.
-    pub fn new(heap: Global, processor: Processor) -> Result<Opening, Unopened>
-        ensures { MatchResult result (λ o. o.processor ≡ processor) (λ u. (u.processor ≡ processor) × (((u.refusal ≡ NoMode) × (processor.modes.items ≡ [])) ⊎ (u.refusal ≡ Memory))) }
+    // Whether a plan may be opened; where it may not, why, and the processor back.
+    pub fn new(heap: Global, processor: Processor) -> Result<Opening, Refused<Processor>>
+        ensures { MatchResult result (λ o. o.processor ≡ processor) (λ u. (u.value ≡ processor) × (((u.refusal ≡ NoMode) × (processor.modes.items ≡ [])) ⊎ (u.refusal ≡ Memory))) }
     {
         if !processor.has_mode() {
-            return Err(Unopened {
+            return Err(Refused {
                 refusal: Refusal::NoMode,
-                processor,
+                value: processor,
             });
         }
-        match TaskTable::new(heap) {
-            Ok(table) => Ok(Opening { processor, table }),
-            Err(_) => Err(Unopened {
+        let Ok(table) = TaskTable::new(heap) else {
+            return Err(Refused {
                 refusal: Refusal::Memory,
-                processor,
-            }),
-        }
+                value: processor,
+            });
+        };
+        Ok(Opening { processor, table })
     }
 
     // Opens the plan, without tasks. It names the cheapest drive of all.
@@ -40,7 +41,10 @@ impl Opening {
         ensures sound { Sound result.processor (Q.Policy.span result.policy) (Feasible (P.Platform.supply result.platform) (Q.Policy.full result.policy)) result.table.set.tasks.items result.drive }
     {
         let Opening { processor, table } = self;
-        let Some(drive) = cheapest(&processor, &platform, &policy, table.set()) else {
+        let Some(trial) = Trial::new(&platform, &policy, table.set()) else {
+            unreachable()
+        };
+        let Some(drive) = cheapest(&processor, &trial) else {
             unreachable()
         };
         Plan::over(processor, platform, policy, table, drive)

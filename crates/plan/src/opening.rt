@@ -1,7 +1,6 @@
 ghost use Rattle.std.specs.Prelude.{◌≡◌, ◌<◌, length};
 
 use crate::table::TaskTable;
-use processor::refusal::Refusal;
 use processor::table::Processor;
 
 // A processor over which a plan may be opened, since it has a mode, with the memory that the plan needs.
@@ -12,19 +11,4 @@ pub struct Opening {
     ghost some_mode: { 0 < length processor.modes.items },
     ghost no_tasks: { length table.set.tasks.items ≡ 0 },
     ghost no_tickets: { length table.tickets.items ≡ 0 },
-}
-
-// A processor over which none may be opened, and why.
-#[derive(Drop)]
-pub struct Unopened {
-    pub refusal: Refusal,
-    pub processor: Processor,
-}
-
-impl From<Unopened> for Refusal {
-    ghost from_gives = { λ u r. r ≡ u.refusal };
-
-    fn from(unopened: Unopened) -> Refusal {
-        unopened.refusal
-    }
 }

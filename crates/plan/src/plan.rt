@@ -2,6 +2,7 @@ ghost use Rattle.std.specs.Prelude.{◌≡◌, ◌+◌, ◌≤◌, [], ◌∷◌
 ghost use Rattle.plan.specs.Admitting.{last_ticket, Sound, Admits, HoldsAfter, Settles};
 ghost use Rattle.plan.specs.Feasible.{Feasible};
 
+use crate::feasible::Trial;
 use crate::search::cheapest;
 use crate::table::TaskTable;
 use demand::policy::Policy;
@@ -57,9 +58,7 @@ impl<P: Platform, Q: Policy> Plan<P, Q> {
     {
         let task = Task::new(figures)?;
         let ticket = self.given + 1;
-        if let Err(refusal) = self.table.add(ticket, task) {
-            return Err(refusal);
-        }
+        self.table.add(ticket, task)?;
         match self.settled(ticket) {
             Ok(drive) => {
                 self.given = ticket;
@@ -80,11 +79,10 @@ impl<P: Platform, Q: Policy> Plan<P, Q> {
         if ticket > LAST_TICKET {
             return Err(Refusal::NoTickets);
         }
-        let set = self.table.set();
-        if !self.policy.spans(set) {
-            return Err(Refusal::OutsideSpan);
-        }
-        cheapest(&self.processor, &self.platform, &self.policy, set).ok_or(Refusal::NoDrive)
+        let trial = Trial::new(&self.platform, &self.policy, self.table.set()).ok_or(
+            Refusal::OutsideSpan,
+        )?;
+        cheapest(&self.processor, &trial).ok_or(Refusal::NoDrive)
     }
 
     // The present drive.

@@ -1,7 +1,0 @@
-use Rattle.std.proofs.Common.{◌≡◌, true, vec_items}
-use Rattle.plan.specs.Feasible.{Feasible}
-use Rattle.plan.specs.Searches.{Improves, Below, PairAt}
-use Rattle.plan.proofs.search.better_above.Given as goal
-
-abbrev pub invariant-high : goal.invariant-high
-invariant-high g l = g.Q.Policy.span l.policy (vec_items l.set.tasks) ≡ true → Improves (Feasible (g.P.Platform.supply l.platform) (g.Q.Policy.full l.policy) (vec_items l.set.tasks)) (Below (PairAt l.processor l.frame l.low) l.high) l.initial.found l.found
