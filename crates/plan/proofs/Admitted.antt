@@ -1,6 +1,5 @@
 -- The answers of an admission, by what the table and the search say.
-use Rattle.std.proofs.Common.{◌≡◌, ℕ, ◌+◌, ◌<◌, ◌≤◌, Bool, true, false, cond, ltb, List, [], ◌∷◌, ◌++◌, length, Some, None, Ok, Err, vec_items, Result, sym, refl, ap, ◌∙◌, subst, inl, inr, ⊎_elim, arith, le-ltb, lt-ltb, eq-eqb}
-use Rattle.std.proofs.lemmas.Bool.{cases_Bool}
+use Rattle.std.proofs.Common.{◌≡◌, ℕ, ◌+◌, ◌<◌, ◌≤◌, Bool, true, false, cond, ltb, List, [], ◌∷◌, ◌++◌, length, Some, None, Ok, Err, vec_items, Option, Result, sym, refl, ap, ◌∙◌, subst, inl, inr, arith, le-ltb, lt-ltb, eq-eqb}
 use Rattle.processor.specs.Candidates.{Candidate}
 use Rattle.processor.specs.Tables.{mode_of}
 use Rattle.processor.specs.declared.mode.Mode.{Mode}
@@ -17,24 +16,30 @@ use Rattle.demand.specs.declared.task.Task.{Task}
 use Rattle.plan.specs.Feasible.{NoCandidate}
 use Rattle.plan.specs.Admitting.{last_ticket, turned_away, Admits, Settles}
 
+-- what the table looks at comes first
+abbrev table_answer : Bool → Bool → Result (Unit {0}) Refusal
+table_answer taken room = cond taken (Err RankTaken) (cond room (Ok tt) (Err PlanFull))
+
+refused_first : (b l : Bool) (rest : Option Refusal) (e : Refusal) → Err e ≡ table_answer b l → cond b (Some RankTaken) (cond l rest (Some PlanFull)) ≡ Some e
+refused_first true l rest e f = cc
+refused_first false true rest e f = cc
+refused_first false false rest e f = cc
+
+taken_first : (b l : Bool) (rest : Option Refusal) → Ok tt ≡ table_answer b l → cond b (Some RankTaken) (cond l rest (Some PlanFull)) ≡ rest
+taken_first true l rest f = cc
+taken_first false true rest f = refl
+taken_first false false rest f = cc
+
 -- what the table answers to one task more
 abbrev added : List Task → Task → Result (Unit {0}) Refusal
-added ts task = cond (has_rank task.rank ts) (Err RankTaken) (cond (ltb (length ts) most_tasks) (Ok tt) (Err PlanFull))
+added ts task = table_answer (has_rank task.rank ts) (ltb (length ts) most_tasks)
 
 module _ (t : Processor) (span : List Task → Bool) (meets : List Task → Drive → Type 0) (ts : List Task) (given : ℕ) (figures : Figures) (task : Task)
     (fig : figures_of task ≡ figures) where
   -- the table turns it away
   table_refuses : (e : Refusal) → Err e ≡ added ts task → turned_away span ts given task ≡ Some e
   table_refuses e f =
-      ⊎_elim
-      (λ (r : has_rank task.rank ts ≡ true). rw r (let g : Err e ≡ Err RankTaken = f ∙ ap (λ v. cond v (Err RankTaken) (cond (ltb (length ts) most_tasks) (Ok tt) (Err PlanFull))) r in cc))
-      (λ (r : has_rank task.rank ts ≡ false).
-      let g : Err e ≡ cond (ltb (length ts) most_tasks) (Ok tt) (Err PlanFull) = f ∙ ap (λ v. cond v (Err RankTaken) (cond (ltb (length ts) most_tasks) (Ok tt) (Err PlanFull))) r in
-      rw r (⊎_elim
-      (λ (l : ltb (length ts) most_tasks ≡ true). let h : Err e ≡ Ok tt = g ∙ ap (λ v. cond v (Ok tt) (Err PlanFull)) l in let z : ◌≡◌ {A = ℕ} 0 1 = cc in absurd (omega arith))
-      (λ (l : ltb (length ts) most_tasks ≡ false). rw l (let h : Err e ≡ Err PlanFull = g ∙ ap (λ v. cond v (Ok tt) (Err PlanFull)) l in cc))
-      (cases_Bool (ltb (length ts) most_tasks))))
-      (cases_Bool (has_rank task.rank ts))
+      refused_first (has_rank task.rank ts) (ltb (length ts) most_tasks) (cond (ltb given last_ticket) (cond (span (ts ++ task ∷ [])) None (Some OutsideSpan)) (Some NoTickets)) e f
 
   pub refused_by_table : (e : Refusal) → Err e ≡ added ts task → Admits t span meets ts given figures (Err e)
   refused_by_table e f = inr (task, fig, inl (table_refuses e f))
@@ -43,16 +48,7 @@ module _ (t : Processor) (span : List Task → Bool) (meets : List Task → Driv
     -- the table takes it, and the ticket and the span are left to look at
     taken : turned_away span ts given task ≡ cond (ltb given last_ticket) (cond (span (ts ++ task ∷ [])) None (Some OutsideSpan)) (Some NoTickets)
     taken =
-        ⊎_elim
-        (λ (r : has_rank task.rank ts ≡ true).
-        let g : Ok tt ≡ Err RankTaken = ok ∙ ap (λ v. cond v (Err RankTaken) (cond (ltb (length ts) most_tasks) (Ok tt) (Err PlanFull))) r in let z : ◌≡◌ {A = ℕ} 0 1 = cc in absurd (omega arith))
-        (λ (r : has_rank task.rank ts ≡ false).
-        let g : Ok tt ≡ cond (ltb (length ts) most_tasks) (Ok tt) (Err PlanFull) = ok ∙ ap (λ v. cond v (Err RankTaken) (cond (ltb (length ts) most_tasks) (Ok tt) (Err PlanFull))) r in
-        rw r (⊎_elim
-        (λ (l : ltb (length ts) most_tasks ≡ true). rw l)
-        (λ (l : ltb (length ts) most_tasks ≡ false). let h : Ok tt ≡ Err PlanFull = g ∙ ap (λ v. cond v (Ok tt) (Err PlanFull)) l in let z : ◌≡◌ {A = ℕ} 0 1 = cc in absurd (omega arith))
-        (cases_Bool (ltb (length ts) most_tasks))))
-        (cases_Bool (has_rank task.rank ts))
+        taken_first (has_rank task.rank ts) (ltb (length ts) most_tasks) (cond (ltb given last_ticket) (cond (span (ts ++ task ∷ [])) None (Some OutsideSpan)) (Some NoTickets)) ok
 
     numbered : given + 1 ≤ last_ticket → turned_away span ts given task ≡ cond (span (ts ++ task ∷ [])) None (Some OutsideSpan)
     numbered h = let l = lt-ltb given last_ticket (omega arith) in taken ∙ ap (λ v. cond v (cond (span (ts ++ task ∷ [])) None (Some OutsideSpan)) (Some NoTickets)) l
