@@ -3,7 +3,7 @@ use Rattle.std.specs.Prelude.{◌≡◌, ℕ, suc, ◌+◌, ◌-◌, ◌*◌, �
 use Rattle.std.proofs.Math.Path.{sym, ap, ap₂}
 use Rattle.std.proofs.Common.{◌∙◌, ⊎_elim, add-one, mod-lt, mod-eq_of_lt, mul-zero, mul-le-mul_left, mul-le-mul_right}
 use native.Mathlib.Omega.{arith}
-use Rattle.std.proofs.Math.Nat.{mod-mod, mul-suc, mul-add}
+use Rattle.std.proofs.Math.Nat.{div-eq_of_lt, mod-mod, mul-suc, mul-add}
 use Rattle.std.proofs.lemmas.Bool.{cases_lt}
 use Rattle.std.proofs.lemmas.Bool.Decides.{nat_tests}
 use Rattle.supply.specs.Windows.{window, Least, least_upto}
@@ -289,11 +289,6 @@ pub drive_least : SupplyIsLeast
 drive_least (Fixed m) t = record { bound = λ s. (let e = window_steady m.speed s t in omega arith); reached = (0, window_steady m.speed 0 t) }
 drive_least (Turns p) t = sum_least (pattern_of p) (pair_sound p) t
 
--- the closed formula by the frame of a pair
-pub closed_at : (p : Pair) (t : ℕ) → closed (pattern_of p) t ≡ t / p.frame * cycles (pattern_of p) + piece (pattern_of p) (t % p.frame)
-unfolding closed
-closed_at p t = ap (λ v. t / v * cycles (pattern_of p) + piece (pattern_of p) (t % v)) p.whole
-
 pub sum_is_closed : (p : Pair) (t : ℕ) → least_sum (pattern_of p) t ≡ closed (pattern_of p) t
 sum_is_closed p t = sum_closed (pattern_of p) (pair_sound p) t
 
@@ -310,5 +305,15 @@ least_below p t =
     let k : p.high.speed * t ≤ top_speed * t = mul-le-mul_right t p.high.slow in
     omega arith
 
-pub closed_below : (p : Pair) (t : ℕ) → closed (pattern_of p) t ≤ top_speed * t
-closed_below p t = let e = sum_is_closed p t in let h = least_below p t in omega arith
+-- the cycles of a frame, and the least of less than one, by the closed formula
+pub frame_is_cycles : (p : Pair) → window (speed (pattern_of p)) 0 p.frame ≡ cycles (pattern_of p)
+frame_is_cycles p = ap (window (speed (pattern_of p)) 0) (sym p.whole) ∙ frame_window (pattern_of p) (pair_sound p)
+
+pub least_is_piece : (p : Pair) (r : ℕ) → r < p.frame → least_sum (pattern_of p) r ≡ piece (pattern_of p) r
+unfolding closed
+least_is_piece p r h =
+    let l : r < frame (pattern_of p) = omega (arith, p.whole) in
+    let e = sum_is_closed p r in
+    let d = div-eq_of_lt l in
+    let m = mod-eq_of_lt l in
+    grind arith

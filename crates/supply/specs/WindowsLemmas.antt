@@ -5,6 +5,8 @@ use Rattle.std.proofs.Common.{◌∙◌, ⊎_elim, mul-suc, mod-lt}
 use native.Mathlib.Omega.{arith}
 use Rattle.std.proofs.Math.Nat.{suc-mod, mod-mod}
 use Rattle.std.proofs.lemmas.Bool.{cases_lt}
+use Rattle.std.proofs.lemmas.List.Sums.{sum_by-cons}
+use Rattle.std.specs.List.{range_with_len, sum_by}
 use Rattle.supply.specs.Windows.{window, Least, least_upto}
 use Rattle.supply.specs.Laws.{Lawful}
 
@@ -33,6 +35,16 @@ window_slides f s t =
     let a = ap (window f s) e in
     let m = window_more f s t in
     omega arith
+
+-- a window is the sum over its places
+pub window_is_sum : (f : ℕ → ℕ) (s t : ℕ) → sum_by f (range_with_len s t) ≡ window f s t
+unfolding window
+window_is_sum f s zero = refl
+window_is_sum f s (suc t) =
+    let e : s + 1 ≡ suc s = omega arith in
+    let ih = window_is_sum f (suc s) t in
+    let x = sum_by-cons f s (range_with_len (suc s) t) in
+    rw e (omega arith)
 
 -- a pattern of one speed
 pub window_steady : (v s t : ℕ) → window (λ _. v) s t ≡ v * t

@@ -1,5 +1,6 @@
 #![tactic(auto)]
 
+pub mod bare;
 pub mod formula;
 pub mod holdoff;
 pub mod layer;

@@ -1,15 +1,12 @@
 ghost use Rattle.std.specs.Prelude.{◌≡◌, ◌<◌};
 ghost use Rattle.supply.specs.Windows.{window as sum};
-ghost use Rattle.supply.specs.Patterns.{speed, least_sum, pattern_of, supply_of};
-ghost use Rattle.supply.specs.Supplies.{drive_lawful};
+ghost use Rattle.supply.specs.Patterns.{speed, least_sum, pattern_of};
 
-use crate::platform::{LONGEST_WINDOW, Platform};
-use crate::window::split;
-use processor::drive::{Drive, Pair};
-use processor::refusal::Refusal;
+use crate::bare::Bare;
+use processor::drive::Pair;
 
 // A bare processor, which answers by a window that slides over the speeds of a frame.
-#[derive(Clone, Copy)]
+#[derive(Clone, Copy, PartialEq, Eq, Debug)]
 pub struct Sliding;
 
 // The speed of a pair in a microsecond.
@@ -32,11 +29,7 @@ fn speed_at(pair: &Pair, place: u32) -> u64
 fn first_cycles(pair: &Pair, length: u32) -> u64
     ensures { result ≡ sum (speed (pattern_of pair.now)) 0 length }
 {
-    let mut cycles = 0;
-    'places: for place in 0..length {
-        cycles += speed_at(pair, place);
-    }
-    cycles
+    (0..length).map(|place| speed_at(pair, place)).sum()
 }
 
 // The least cycles of less than a frame: the window slides from the start of a frame to its last microsecond.
@@ -54,25 +47,12 @@ fn least_cycles(pair: &Pair, rest: u32) -> u64
     least
 }
 
-fn pair_cycles(pair: &Pair, window: u32) -> u64
-    ensures { result ≡ least_sum (pattern_of pair.now) window }
-{
-    let (frames, rest) = split(pair, window);
-    u64::from(frames) * first_cycles(pair, pair.frame) + least_cycles(pair, rest)
-}
+impl Bare for Sliding {
+    fn frame_cycles(&self, pair: &Pair) -> u64 {
+        first_cycles(pair, pair.frame)
+    }
 
-impl Platform for Sliding {
-    ghost supply = { λ _ d t. supply_of d t };
-
-    ghost lawful = { λ p d. drive_lawful d };
-
-    fn supplied(&self, drive: &Drive, window: u32) -> Result<u64, Refusal> {
-        if window > LONGEST_WINDOW {
-            return Err(Refusal::WindowLimit);
-        }
-        match drive {
-            Drive::Fixed(mode) => Ok(u64::from(mode.speed) * u64::from(window)),
-            Drive::Pair(pair) => Ok(pair_cycles(pair, window)),
-        }
+    fn rest_cycles(&self, pair: &Pair, rest: u32) -> u64 {
+        least_cycles(pair, rest)
     }
 }
