@@ -1,12 +1,12 @@
 -- The least windows of two modes in turn.
-use Rattle.std.specs.Prelude.{◌≡◌, ℕ, suc, ◌+◌, ◌-◌, ◌*◌, ◌/◌, ◌%◌, ◌<◌, ◌≤◌, min, refl}
+use Rattle.std.specs.Prelude.{◌≡◌, ℕ, suc, ◌+◌, ◌-◌, ◌*◌, ◌/◌, ◌%◌, ◌<◌, ◌≤◌, min}
 use Rattle.std.proofs.Math.Path.{sym, ap, ap₂}
-use Rattle.std.proofs.Common.{◌∙◌, ⊎_elim, add-one, mod-lt, mod-eq_of_lt, mul-zero, mul-le-mul_left, mul-le-mul_right}
+use Rattle.std.proofs.Common.{◌∙◌, ⊎_elim, mod-lt, mod-eq_of_lt, mul-zero, mul-le-mul_left, mul-le-mul_right}
 use native.Mathlib.Omega.{arith}
 use Rattle.std.proofs.Math.Nat.{div-eq_of_lt, mod-mod, mul-suc, mul-add}
 use Rattle.std.proofs.lemmas.Bool.{cases_lt}
 use Rattle.std.proofs.lemmas.Bool.Decides.{nat_tests}
-use Rattle.supply.specs.Windows.{window, Least, least_upto}
+use Rattle.supply.specs.Windows.{window, Least}
 use Rattle.processor.specs.declared.drive.Drive.{Drive}
 use Rattle.processor.specs.declared.drive.Drive.TheVariants.{Fixed, Pair as Turns}
 use Rattle.processor.specs.declared.drive.Pair.{Pair}
@@ -243,23 +243,6 @@ module _ (m : Pattern) (sound : Sound m) where
 
   pub sum_lawful : Lawful m.high_speed (least_sum m)
   sum_lawful = least_lawful (speed m) (least_sum m) m.high_speed speed_top sum_least
-
--- the least sum over the starts up to n
-pub least_so_far : Pattern → ℕ → ℕ → ℕ
-least_so_far m t n = least_upto (λ s. window (speed m) s t) n
-
-pub least_start : (m : Pattern) (t : ℕ) → window (speed m) 0 t ≡ least_so_far m t 0
-unfolding least_so_far least_upto
-least_start m t = refl
-
-pub least_more : (m : Pattern) (t n : ℕ) → min (least_so_far m t n) (window (speed m) (n + 1) t) ≡ least_so_far m t (n + 1)
-unfolding least_so_far least_upto
-least_more m t n = rw add-one refl
-
-pub least_all : (p : Pair) (t n : ℕ) → n ≡ p.frame - 1 → least_so_far (pattern_of p) t n ≡ least_sum (pattern_of p) t
-unfolding least_so_far least_sum
-least_all p t n e =
-    let d : n ≡ frame (pattern_of p) - 1 = omega (arith, p.whole) in ap (least_upto (λ s. window (speed (pattern_of p)) s t)) d
 
 -- every pair has such a pattern
 pub pair_sound : (p : Pair) → Sound (pattern_of p)

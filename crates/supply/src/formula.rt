@@ -6,6 +6,7 @@ use processor::drive::Pair;
 pub struct Formula;
 
 impl Bare for Formula {
+    #[tactic(auto, using(crate::specs::Supplies::frame_is_cycles))]
     fn frame_cycles(&self, pair: &Pair) -> u64 {
         let low = u64::from(pair.low.speed) * u64::from(pair.low_time - pair.down);
         let high = u64::from(pair.high.speed) * u64::from(pair.high_time - pair.up);
@@ -14,6 +15,7 @@ impl Bare for Formula {
 
     // A switch may come first, then the low mode runs, then another switch is waited for, and only what is longer than
     // that has the high mode in it.
+    #[tactic(auto, using(crate::specs::Supplies::least_is_piece, std::proofs::lemmas::Bool::Decides::nat_tests), unfolding(crate::specs::Formulas::piece))]
     fn rest_cycles(&self, pair: &Pair, rest: u32) -> u64 {
         let speed = u64::from(pair.low.speed);
         let longer = pair.down.max(pair.up);

@@ -12,7 +12,7 @@ use processor::refusal::Refusal;
 pub const LONGEST_HOLDOFF: u32 = 1_000_000;
 
 // Supplies nothing for a time at the start of a window, and then what the platform below supplies.
-#[derive(Drop)]
+#[derive(PartialEq, Eq, Debug, Drop)]
 pub struct Holdoff<P> {
     delay: u32,
     below: P,

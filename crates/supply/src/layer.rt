@@ -3,7 +3,7 @@ ghost use Rattle.std.specs.Prelude.{◌≡◌};
 use processor::refusal::Refusal;
 
 // Why a layer was not made, and the platform that was to be below it.
-#[derive(Drop)]
+#[derive(Clone, PartialEq, Eq, Debug, Drop)]
 pub struct Unlayered<P> {
     pub refusal: Refusal,
     pub below: P,

@@ -12,7 +12,7 @@ use processor::refusal::Refusal;
 pub const MOST_PARTS: u32 = 1_000;
 
 // Hands on num of each den cycles that the platform below supplies.
-#[derive(Drop)]
+#[derive(PartialEq, Eq, Debug, Drop)]
 pub struct Share<P> {
     num: u32,
     den: u32,
@@ -27,7 +27,7 @@ impl<P> Share<P> {
     pub fn new(num: u32, den: u32, below: P) -> Result<Share<P>, Unlayered<P>>
         ensures { MatchResult result (λ s. Parts num den × (s.num ≡ num) × (s.den ≡ den) × (s.below ≡ below)) (λ e. (Parts num den → ⊥) × (e.refusal ≡ ShareNumbers) × (e.below ≡ below)) }
     {
-        if num < 1 || num > den || den > MOST_PARTS {
+        if !(1..=den).contains(&num) || den > MOST_PARTS {
             return Err(Unlayered {
                 refusal: Refusal::ShareNumbers,
                 below,

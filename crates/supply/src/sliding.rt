@@ -1,6 +1,6 @@
-ghost use Rattle.std.specs.Prelude.{◌≡◌, ◌<◌};
+ghost use Rattle.std.specs.Prelude.{◌≡◌};
 ghost use Rattle.supply.specs.Windows.{window as sum};
-ghost use Rattle.supply.specs.Patterns.{speed, least_sum, pattern_of};
+ghost use Rattle.supply.specs.Patterns.{speed, pattern_of};
 
 use crate::bare::Bare;
 use processor::drive::Pair;
@@ -32,27 +32,19 @@ fn first_cycles(pair: &Pair, length: u32) -> u64
     (0..length).map(|place| speed_at(pair, place)).sum()
 }
 
-// The least cycles of less than a frame: the window slides from the start of a frame to its last microsecond.
-fn least_cycles(pair: &Pair, rest: u32) -> u64
-    requires { rest < pair.now.frame }
-    ensures { result ≡ least_sum (pattern_of pair.now) rest }
-{
-    let mut cycles = first_cycles(pair, rest);
-    let mut least = cycles;
-    let last = pair.frame - 1;
-    'starts: for start in 0..last {
-        cycles = cycles + speed_at(pair, start + rest) - speed_at(pair, start);
-        least = least.min(cycles);
-    }
-    least
-}
-
 impl Bare for Sliding {
     fn frame_cycles(&self, pair: &Pair) -> u64 {
         first_cycles(pair, pair.frame)
     }
 
+    // The window slides from the start of a frame to its last microsecond.
     fn rest_cycles(&self, pair: &Pair, rest: u32) -> u64 {
-        least_cycles(pair, rest)
+        let mut cycles = first_cycles(pair, rest);
+        let mut least = cycles;
+        for start in 0..pair.frame - 1 {
+            cycles = cycles + speed_at(pair, start + rest) - speed_at(pair, start);
+            least = least.min(cycles);
+        }
+        least
     }
 }
