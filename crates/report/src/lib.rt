@@ -1,9 +1,10 @@
 #![tactic(auto)]
 
 mod line;
-mod place;
+mod row;
 
-pub use line::{FaultLine, LONGEST_LINE, Line, write_fault, write_header, write_line};
+pub use line::{FaultLine, Header, Line};
+pub use row::{LONGEST_LINE, Row, write};
 
 #[cfg(test)]
 mod tests;

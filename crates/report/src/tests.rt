@@ -1,4 +1,5 @@
-use crate::line::{FaultLine, Line, write_fault, write_header, write_line};
+use crate::line::{FaultLine, Header, Line};
+use crate::row::write;
 use processor::drive::{Drive, Pair};
 use processor::mode::Mode;
 use processor::refusal::Refusal;
@@ -19,7 +20,7 @@ const HIGH: Mode = Mode {
 #[test]
 fn header(rt: HostRuntime) -> Result<(), Fail> {
     let mut buffer = [0u8; 100];
-    let end = write_header(&mut buffer, 0)?;
+    let end = write(&mut buffer, 0, &Header)?;
     assert!(rt; end == 58);
     assert!(rt;
         &buffer[0..end]
@@ -36,7 +37,7 @@ fn fixed_drive(rt: HostRuntime) -> Result<(), Fail> {
         drive: Drive::Fixed(HIGH),
     };
     let mut buffer = [0u8; 100];
-    let end = write_line(&mut buffer, 0, &line)?;
+    let end = write(&mut buffer, 0, &line)?;
     assert!(rt; end == 34);
     assert!(rt; &buffer[0..end] == b"4294967295,0,65535,2,2,0,0,810,1\r\n".as_slice());
     Ok(())
@@ -59,7 +60,7 @@ fn pair(rt: HostRuntime) -> Result<(), Fail> {
         drive: Drive::Pair(pair),
     };
     let mut buffer = [0u8; 100];
-    let end = write_line(&mut buffer, 0, &line)?;
+    let end = write(&mut buffer, 0, &line)?;
     assert!(rt; &buffer[0..end] == b"2,21,0,1,2,5760,3840,5875200,9600\r\n".as_slice());
     Ok(())
 }
@@ -73,7 +74,7 @@ fn fault_between_other_bytes(rt: HostRuntime) -> Result<(), Fail> {
         field: 3,
     };
     let mut buffer = [b'#'; 18];
-    let end = write_fault(&mut buffer, 1, &fault)?;
+    let end = write(&mut buffer, 1, &fault)?;
     assert!(rt; end == 17);
     assert!(rt; &buffer == b"#fault,12,1,3,3\r\n#");
     Ok(())
@@ -87,17 +88,17 @@ fn last_bytes_and_one_byte_short(rt: HostRuntime) {
         drive: Drive::Fixed(LOW),
     };
     let mut buffer = [b'#'; 23];
-    assert_eq!(rt; write_line(&mut buffer, 1, &line), Ok(23));
+    assert_eq!(rt; write(&mut buffer, 1, &line), Ok(23));
     assert!(rt; &buffer == b"#1,25,0,1,1,0,0,480,1\r\n");
     let mut short = [b'#'; 22];
-    assert_eq!(rt; write_line(&mut short, 1, &line), Err(Refusal::NoRoom));
+    assert_eq!(rt; write(&mut short, 1, &line), Err(Refusal::NoRoom));
     assert!(rt; short == [b'#'; 22]);
 }
 
 #[test]
 fn no_room_at_the_end_or_past_it(rt: HostRuntime) {
     let mut buffer = [b'#'; 4];
-    assert_eq!(rt; write_header(&mut buffer, 4), Err(Refusal::NoRoom));
-    assert_eq!(rt; write_header(&mut buffer, 5), Err(Refusal::NoRoom));
+    assert_eq!(rt; write(&mut buffer, 4, &Header), Err(Refusal::NoRoom));
+    assert_eq!(rt; write(&mut buffer, 5, &Header), Err(Refusal::NoRoom));
     assert!(rt; buffer == [b'#'; 4]);
 }
