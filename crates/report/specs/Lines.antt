@@ -6,7 +6,7 @@ use Rattle.processor.specs.declared.drive.Drive.{Drive}
 use Rattle.processor.specs.declared.drive.Drive.TheVariants.{Fixed, Pair}
 use Rattle.processor.specs.declared.refusal.Refusal.{Refusal}
 use Rattle.report.specs.Texts.{line_end, row_text}
-use Rattle.report.specs.declared.line.FaultLine.{FaultLine}
+use Rattle.report.specs.declared.fault.FaultLine.{FaultLine}
 use Rattle.report.specs.declared.line.Line.{Line}
 
 abbrev pub header_text : List ℕ

@@ -1,14 +1,11 @@
-ghost use Rattle.std.specs.Prelude.{◌≡◌};
-ghost use Rattle.report.specs.Lines.{header_text, drive_fields, line_fields, line_text, fault_text};
+ghost use Rattle.std.specs.Prelude.{◌≡◌, Some};
+ghost use Rattle.report.specs.Lines.{drive_fields, line_fields, line_text};
 
 use crate::row::{LONGEST_LINE, Row, row_text};
 use arrayvec::ArrayString;
 use processor::drive::Drive;
 use processor::refusal::Refusal;
-
-// The line that names the columns.
-#[derive(Clone, Copy)]
-pub struct Header;
+use std::fmt;
 
 // A line of a report: the number of the record, from 1, what its call answered, the ticket or why there is none, and
 // the drive after the call.
@@ -17,15 +14,6 @@ pub struct Line {
     pub record: u32,
     pub answer: Result<u32, Refusal>,
     pub drive: Drive,
-}
-
-// The line of a fault: why, and in which file, record and field.
-#[derive(Clone, Copy)]
-pub struct FaultLine {
-    pub refusal: Refusal,
-    pub file: u32,
-    pub record: u32,
-    pub field: u32,
 }
 
 // The figures of a drive: its two modes, their times, the energy of a frame in nJ, and the frame. A fixed drive is
@@ -64,16 +52,6 @@ impl Line {
     }
 }
 
-impl Row for Header {
-    ghost text = { λ _. header_text };
-
-    fn text(&self) -> ArrayString<LONGEST_LINE> {
-        let mut text = ArrayString::new();
-        text.push_str("record,answer,ticket,low,high,qlow,qhigh,nanojoule,frame\r\n");
-        text
-    }
-}
-
 impl Row for Line {
     ghost text = { line_text };
 
@@ -82,11 +60,10 @@ impl Row for Line {
     }
 }
 
-impl Row for FaultLine {
-    ghost text = { fault_text };
+impl fmt::Display for Line {
+    ghost output = { λ l. Some (line_text l) };
 
-    fn text(&self) -> ArrayString<LONGEST_LINE> {
-        let place = [self.file, self.record, self.field];
-        row_text("fault,", self.refusal.number(), &place)
+    fn fmt<W: fmt::Write>(&self, f: &mut fmt::Formatter<W>) -> fmt::Result {
+        f.write_str(self.text().as_str())
     }
 }

@@ -1,4 +1,6 @@
-use crate::line::{FaultLine, Header, Line};
+use crate::fault::FaultLine;
+use crate::header::Header;
+use crate::line::Line;
 use crate::row::write;
 use processor::drive::{Drive, Pair};
 use processor::mode::Mode;
@@ -101,4 +103,25 @@ fn no_room_at_the_end_or_past_it(rt: HostRuntime) {
     assert_eq!(rt; write(&mut buffer, 4, &Header), Err(Refusal::NoRoom));
     assert_eq!(rt; write(&mut buffer, 5, &Header), Err(Refusal::NoRoom));
     assert!(rt; buffer == [b'#'; 4]);
+}
+
+// What `{}` prints of rows is their lines.
+#[test]
+fn rows_print(rt: HostRuntime) -> Result<(), Fail> {
+    let line = Line {
+        record: 1,
+        answer: Err(Refusal::NoDrive),
+        drive: Drive::Fixed(LOW),
+    };
+    let fault = FaultLine {
+        refusal: Refusal::ToUnlisted,
+        file: 1,
+        record: 3,
+        field: 3,
+    };
+    let header = Header.to_string(rt.alloc())?;
+    assert!(rt; header.as_str() == "record,answer,ticket,low,high,qlow,qhigh,nanojoule,frame\r\n");
+    let text = format!(in rt.alloc(); "{line}{fault}")?;
+    assert!(rt; text.as_str() == "1,25,0,1,1,0,0,480,1\r\nfault,12,1,3,3\r\n");
+    Ok(())
 }
