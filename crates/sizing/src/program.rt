@@ -1,29 +1,35 @@
 use crate::advice::expected;
-use crate::size::{Outcome, size};
+use crate::size::{SizeError, fault_line, size};
 use anyhow::anyhow;
 use demand::policy::Policy;
 use input::fault::{Fault, Source};
 use input::line::LONGEST_FILE;
 use input::shown::fault_text;
+use report::{LONGEST_LINE, write};
 use std::fs::File;
 use std::io::{Read, Write};
 use std::{env, io};
 
-// The bytes of a file, at most one more than a file may have. One that can't be opened or read counts as empty.
-fn read_file(rt: &HostRuntime, path: &str) -> io::Result<Vec<u8>> {
-    let mut bytes = Vec::new(rt.alloc());
-    let Ok(file) = File::open(rt, path) else {
-        return Ok(bytes);
-    };
-    match file.take(LONGEST_FILE as u64 + 1).read_to_end(&mut bytes) {
-        Ok(_) => Ok(bytes),
-        Err(error) => {
-            if error.kind() == io::ErrorKind::OutOfMemory {
-                return Err(error);
+// A file of the arguments: its path, and its bytes.
+#[derive(Drop)]
+struct InputFile {
+    path: String,
+    bytes: Vec<u8>,
+}
+
+impl InputFile {
+    // Reads a file, at most one byte more than a file may have. One that can't be opened or read counts as empty.
+    fn read(rt: &HostRuntime, path: String) -> io::Result<InputFile> {
+        let mut bytes = Vec::new(rt.alloc());
+        if let Ok(file) = File::open(rt, &path) {
+            if let Err(error) = file.take(LONGEST_FILE as u64 + 1).read_to_end(&mut bytes) {
+                if error.kind() == io::ErrorKind::OutOfMemory {
+                    return Err(error);
+                }
+                bytes.clear();
             }
-            bytes.clear();
-            Ok(bytes)
         }
+        Ok(InputFile { path, bytes })
     }
 }
 
@@ -61,42 +67,35 @@ fn explain(rt: &HostRuntime, path: &str, fault: &Fault, text: Option<&[u8]>) -> 
 // Prints the line of a fault, and the sentence about it on standard error.
 fn print_fault(
     rt: &HostRuntime,
-    line: &[u8],
     fault: &Fault,
-    processor: (&str, &[u8]),
-    tasks: (&str, &[u8]),
+    processor: &InputFile,
+    tasks: &InputFile,
 ) -> anyhow::Result<()> {
-    rt.stdout().write_all(line)?;
-    let path = match fault.file {
-        Source::Processor => processor.0,
-        Source::Tasks => tasks.0,
+    let mut buffer = [0; LONGEST_LINE];
+    let end = write(&mut buffer, 0, &fault_line(fault)).unwrap();
+    rt.stdout().write_all(&buffer[..end])?;
+    let file = match fault.file {
+        Source::Processor => processor,
+        Source::Tasks => tasks,
     };
-    explain(rt, path, fault, fault_text(processor.1, tasks.1, fault))
+    let text = fault_text(&processor.bytes, &tasks.bytes, fault);
+    explain(rt, file.path.as_str(), fault, text)
 }
 
 // Sizes the printer of the two files that the arguments name, and prints the report or the fault.
 pub fn run<Q: Policy + Drop>(rt: &HostRuntime, policy: Q) -> anyhow::Result<()> {
     let (processor_path, tasks_path) = paths(rt)?;
-    let processor_file = read_file(rt, processor_path.as_str())?;
-    let tasks_file = read_file(rt, tasks_path.as_str())?;
-    let processor = processor_file.as_slice();
-    let tasks = tasks_file.as_slice();
-    match size(rt.alloc(), policy, processor, tasks) {
-        Ok(Outcome::Report(text)) => {
-            rt.stdout().write_all(text.as_slice())?;
+    let processor = InputFile::read(rt, processor_path)?;
+    let tasks = InputFile::read(rt, tasks_path)?;
+    match size(rt.alloc(), policy, &processor.bytes, &tasks.bytes) {
+        Ok(report) => {
+            rt.stdout().write_all(report.as_bytes())?;
             Ok(())
         }
-        Ok(Outcome::Faulty(line, fault)) => {
-            let names = (processor_path.as_str(), tasks_path.as_str());
-            print_fault(
-                rt,
-                line.as_slice(),
-                &fault,
-                (names.0, processor),
-                (names.1, tasks),
-            )?;
+        Err(SizeError::Faulty(fault)) => {
+            print_fault(rt, &fault, &processor, &tasks)?;
             Err(anyhow!("a file has a fault"))
         }
-        Err(_) => Err(anyhow!("there is not enough memory")),
+        Err(SizeError::Refused(_)) => Err(anyhow!("there is not enough memory")),
     }
 }

@@ -1,35 +1,71 @@
+ghost use Rattle.std.specs.Prelude.{◌≡◌};
+ghost use Rattle.input.specs.Showing.{source_number};
+ghost use Rattle.input.specs.declared.fault.Fault.{Fault};
+ghost use Rattle.input.specs.declared.fault.Unread.TheVariants as Unread;
+ghost use Rattle.processor.specs.declared.refusal.Refusal.TheVariants.{Memory};
+ghost use Rattle.sizing.specs.declared.size.SizeError.TheVariants.{Faulty, Refused};
+
 use demand::policy::Policy;
 use demand::task::Figures;
 use input::fault::{Fault, Unread};
 use input::processor_file::read_processor;
 use input::tasks_file::read_tasks;
-use plan::opening::Opening;
+use plan::opening::{Opening, Unopened};
 use plan::plan::Plan;
 use processor::refusal::Refusal;
-use report::{FaultLine, LONGEST_LINE, Line, write_fault, write_header, write_line};
-use std::alloc::Global;
+use report::{FaultLine, Header, Line};
+use std::alloc::{AllocError, Global};
 use supply::formula::Formula;
 use supply::platform::Platform;
 
-// What is printed of two files: the report of their plan, or the one line of a fault, with the fault.
-#[derive(Drop)]
-pub enum Outcome {
-    Report(Vec<u8>),
-    Faulty(Vec<u8>, Fault),
+// Why two files give no report: one of them has a fault, or a call was turned away.
+#[derive(Clone, Copy)]
+pub enum SizeError {
+    Faulty(Fault),
+    Refused(Refusal),
+}
+
+impl From<Unread> for SizeError {
+    ghost from_gives = { λ u e. ((f : Fault) → u ≡ Unread.Faulty f → e ≡ Faulty f)
+        × (u ≡ Unread.Memory → e ≡ Refused Memory) };
+
+    fn from(unread: Unread) -> SizeError {
+        match unread {
+            Unread::Faulty(fault) => SizeError::Faulty(fault),
+            Unread::Memory => SizeError::Refused(Refusal::Memory),
+        }
+    }
+}
+
+impl From<Unopened> for SizeError {
+    ghost from_gives = { λ u e. e ≡ Refused u.refusal };
+
+    fn from(unopened: Unopened) -> SizeError {
+        SizeError::Refused(unopened.refusal)
+    }
+}
+
+impl From<AllocError> for SizeError {
+    ghost from_gives = { λ _ e. e ≡ Refused Memory };
+
+    fn from(error: AllocError) -> SizeError {
+        SizeError::Refused(Refusal::from(error))
+    }
 }
 
 // The line of a fault.
-fn fault_line(heap: Global, fault: Fault) -> Result<Outcome, Refusal> {
-    let mut text = vec![in heap; 0; LONGEST_LINE]?;
-    let line = FaultLine {
+pub fn fault_line(fault: &Fault) -> FaultLine
+    ensures refusal { result.refusal ≡ fault.now.cause }
+    ensures file { result.file ≡ source_number fault.now.file }
+    ensures record_number { result.«record» ≡ fault.now.«record» }
+    ensures field { result.field ≡ fault.now.field }
+{
+    FaultLine {
         refusal: fault.cause,
         file: fault.file.number(),
         record: fault.record,
         field: fault.field,
-    };
-    let end = write_fault(&mut text, 0, &line)?;
-    text.truncate(end);
-    Ok(Outcome::Faulty(text, fault))
+    }
 }
 
 // Admits each task in turn and writes what came of it.
@@ -37,44 +73,32 @@ fn report_lines<P: Platform, Q: Policy>(
     heap: Global,
     plan: &mut Plan<P, Q>,
     tasks: &[Figures],
-) -> Result<Vec<u8>, Refusal> {
-    let lines = tasks.len().saturating_add(1);
-    let mut text = vec![in heap; 0; LONGEST_LINE.saturating_mul(lines)]?;
-    let mut end = write_header(&mut text, 0)?;
-    let mut record: u32 = 0;
-    'tasks: for figures in tasks {
-        record = record.saturating_add(1);
+) -> Result<String, AllocError> {
+    let mut text = Header.to_string(heap)?;
+    'tasks: for (figures, record) in tasks.iter().zip(1..) {
         let answer = plan.admit(*figures);
+        let drive = plan.drive();
         let line = Line {
             record,
             answer,
-            drive: plan.drive(),
+            drive,
         };
-        end = write_line(&mut text, end, &line)?;
+        write!(text, "{line}")?;
     }
-    text.truncate(end);
     Ok(text)
 }
 
-// Turns a processor's file and a file of tasks into what is printed: over the bare processor, under a policy.
+// Turns a processor's file and a file of tasks into a report: over the bare processor, under a policy.
 pub fn size<Q: Policy + Drop>(
     heap: Global,
     policy: Q,
     processor_file: &[u8],
     tasks_file: &[u8],
-) -> Result<Outcome, Refusal> {
-    let processor = match read_processor(heap, processor_file) {
-        Ok(processor) => processor,
-        Err(Unread::Faulty(fault)) => return fault_line(heap, fault),
-        Err(Unread::Memory) => return Err(Refusal::Memory),
-    };
-    let tasks = match read_tasks(heap, tasks_file) {
-        Ok(tasks) => tasks,
-        Err(Unread::Faulty(fault)) => return fault_line(heap, fault),
-        Err(Unread::Memory) => return Err(Refusal::Memory),
-    };
+) -> Result<String, SizeError> {
+    let processor = read_processor(heap, processor_file)?;
+    let tasks = read_tasks(heap, tasks_file)?;
     let opening = Opening::new(heap, processor)?;
     let mut plan = opening.open(Formula, policy);
-    let text = report_lines(heap, &mut plan, tasks.as_slice())?;
-    Ok(Outcome::Report(text))
+    let text = report_lines(heap, &mut plan, &tasks)?;
+    Ok(text)
 }

@@ -1,30 +1,28 @@
-use crate::size::{Outcome, size};
+use crate::size::{SizeError, fault_line, size};
 use demand::edf::Edf;
 use demand::fp::Fp;
-use processor::refusal::Refusal;
+use report::Row;
 use std::alloc::Global;
 use std::process::Abort;
 use std::test::Fail;
 
 const TASKS: &[u8] = b"rank,cycles,fixed,period,deadline\r\n1,240000,400,9600,9600\r\n";
 
-// What is printed of two files is this text.
+// Two files give this report, or a fault whose line is this.
 fn prints(
     rt: &impl Abort,
-    outcome: Result<Outcome, Refusal>,
-    faulty: bool,
-    text: &[u8],
+    sized: Result<String, SizeError>,
+    expected: Result<&str, &str>,
 ) -> Result<(), Fail> {
-    match outcome? {
-        Outcome::Report(printed) => {
-            assert!(rt; !faulty && printed.as_slice() == text);
-            Ok(())
-        },
-        Outcome::Faulty(printed, _) => {
-            assert!(rt; faulty && printed.as_slice() == text);
-            Ok(())
-        },
+    match sized {
+        Ok(report) => assert_eq!(rt; Ok(report.as_str()), expected),
+        Err(SizeError::Faulty(fault)) => {
+            let line = fault_line(&fault).text();
+            assert_eq!(rt; Err(line.as_str()), expected);
+        }
+        Err(SizeError::Refused(refusal)) => return Err(refusal.into()),
     }
+    Ok(())
 }
 
 // A switch to a mode that is not listed, under both policies.
@@ -35,14 +33,12 @@ fn a_switch_to_an_unlisted_mode(rt: HostRuntime) -> Result<(), Fail> {
     prints(
         &rt,
         size(heap, Edf, processor, TASKS),
-        true,
-        b"fault,12,1,3,3\r\n",
+        Err("fault,12,1,3,3\r\n"),
     )?;
     prints(
         &rt,
         size(heap, Fp, processor, TASKS),
-        true,
-        b"fault,12,1,3,3\r\n",
+        Err("fault,12,1,3,3\r\n"),
     )
 }
 
@@ -50,15 +46,14 @@ fn a_switch_to_an_unlisted_mode(rt: HostRuntime) -> Result<(), Fail> {
 #[test]
 fn short_files(rt: HostRuntime) -> Result<(), Fail> {
     let heap: Global = rt.alloc();
-    prints(&rt, size(heap, Edf, b"", TASKS), true, b"fault,3,1,0,0\r\n")?;
+    prints(&rt, size(heap, Edf, b"", TASKS), Err("fault,3,1,0,0\r\n"))?;
     let processor = b"kind,a,b,c\r\nmode,2,40,810\r\nmode,1,20,480\r\n";
     prints(
         &rt,
         size(heap, Fp, processor, b""),
-        true,
-        b"fault,3,2,0,0\r\n",
+        Err("fault,3,2,0,0\r\n"),
     )?;
     let report =
-        b"record,answer,ticket,low,high,qlow,qhigh,nanojoule,frame\r\n1,0,1,2,2,0,0,810,1\r\n";
-    prints(&rt, size(heap, Fp, processor, TASKS), false, report)
+        "record,answer,ticket,low,high,qlow,qhigh,nanojoule,frame\r\n1,0,1,2,2,0,0,810,1\r\n";
+    prints(&rt, size(heap, Fp, processor, TASKS), Ok(report))
 }
