@@ -10,9 +10,9 @@ use demand::task::Figures;
 use input::fault::{Fault, Unread};
 use input::processor_file::read_processor;
 use input::tasks_file::read_tasks;
-use plan::opening::{Opening, Unopened};
+use plan::opening::Opening;
 use plan::plan::Plan;
-use processor::refusal::Refusal;
+use processor::refusal::{Refusal, Refused};
 use report::{FaultLine, Header, Line};
 use std::alloc::{AllocError, Global};
 use supply::formula::Formula;
@@ -37,11 +37,11 @@ impl From<Unread> for SizeError {
     }
 }
 
-impl From<Unopened> for SizeError {
-    ghost from_gives = { λ u e. e ≡ Refused u.refusal };
+impl<T: Drop> From<Refused<T>> for SizeError {
+    ghost from_gives = { λ r e. e ≡ Refused r.refusal };
 
-    fn from(unopened: Unopened) -> SizeError {
-        SizeError::Refused(unopened.refusal)
+    fn from(refused: Refused<T>) -> SizeError {
+        SizeError::Refused(refused.refusal)
     }
 }
 

@@ -3,10 +3,9 @@ ghost use Rattle.processor.specs.declared.refusal.Refusal.TheVariants.{HoldoffLi
 ghost use Rattle.supply.specs.Layers.{longest_holdoff, holdoff_of};
 ghost use Rattle.supply.specs.LayersLemmas.{holdoff_lawful};
 
-use crate::layer::Unlayered;
 use crate::platform::{LONGEST_WINDOW, Platform};
 use processor::drive::Drive;
-use processor::refusal::Refusal;
+use processor::refusal::{Refusal, Refused};
 
 // The longest holdoff, in microseconds.
 pub const LONGEST_HOLDOFF: u32 = 1_000_000;
@@ -21,13 +20,13 @@ pub struct Holdoff<P> {
 
 impl<P> Holdoff<P> {
     // A holdoff of at most the longest, or the platform back.
-    pub fn new(delay: u32, below: P) -> Result<Holdoff<P>, Unlayered<P>>
-        ensures { MatchResult result (λ h. (delay ≤ longest_holdoff) × (h.delay ≡ delay) × (h.below ≡ below)) (λ e. (longest_holdoff < delay) × (e.refusal ≡ HoldoffLimit) × (e.below ≡ below)) }
+    pub fn new(delay: u32, below: P) -> Result<Holdoff<P>, Refused<P>>
+        ensures { MatchResult result (λ h. (delay ≤ longest_holdoff) × (h.delay ≡ delay) × (h.below ≡ below)) (λ e. (longest_holdoff < delay) × (e.refusal ≡ HoldoffLimit) × (e.value ≡ below)) }
     {
         if delay > LONGEST_HOLDOFF {
-            return Err(Unlayered {
+            return Err(Refused {
                 refusal: Refusal::HoldoffLimit,
-                below,
+                value: below,
             });
         }
         Ok(Holdoff { delay, below })

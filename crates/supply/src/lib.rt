@@ -3,7 +3,6 @@
 pub mod bare;
 pub mod formula;
 pub mod holdoff;
-pub mod layer;
 pub mod platform;
 pub mod sample;
 pub mod share;

@@ -3,10 +3,9 @@ ghost use Rattle.processor.specs.declared.refusal.Refusal.TheVariants.{ShareNumb
 ghost use Rattle.supply.specs.Layers.{Parts, most_parts, share_of};
 ghost use Rattle.supply.specs.LayersLemmas.{share_lawful};
 
-use crate::layer::Unlayered;
 use crate::platform::Platform;
 use processor::drive::Drive;
-use processor::refusal::Refusal;
+use processor::refusal::{Refusal, Refused};
 
 // The most parts that a share takes its own from.
 pub const MOST_PARTS: u32 = 1_000;
@@ -24,13 +23,13 @@ pub struct Share<P> {
 
 impl<P> Share<P> {
     // A share of at least one part and at most all, or the platform back.
-    pub fn new(num: u32, den: u32, below: P) -> Result<Share<P>, Unlayered<P>>
-        ensures { MatchResult result (λ s. Parts num den × (s.num ≡ num) × (s.den ≡ den) × (s.below ≡ below)) (λ e. (Parts num den → ⊥) × (e.refusal ≡ ShareNumbers) × (e.below ≡ below)) }
+    pub fn new(num: u32, den: u32, below: P) -> Result<Share<P>, Refused<P>>
+        ensures { MatchResult result (λ s. Parts num den × (s.num ≡ num) × (s.den ≡ den) × (s.below ≡ below)) (λ e. (Parts num den → ⊥) × (e.refusal ≡ ShareNumbers) × (e.value ≡ below)) }
     {
         if !(1..=den).contains(&num) || den > MOST_PARTS {
-            return Err(Unlayered {
+            return Err(Refused {
                 refusal: Refusal::ShareNumbers,
-                below,
+                value: below,
             });
         }
         Ok(Share { num, den, below })
