@@ -1,5 +1,5 @@
 -- Sets of tasks: whose ranks differ, and what an edit leaves of that.
-use Rattle.std.proofs.Common.{◌≡◌, ℕ, zero, suc, ◌+◌, ◌*◌, ◌<◌, ◌≤◌, Bool, true, false, cond, eqb, ◌⊎◌, List, [], ◌∷◌, ◌++◌, map, length, get_or, take, drop, set, vec_items, sym, refl, ap, ◌∙◌, subst, inl, inr, arith, length-take, get_or-take, eq-eqb, ne_eqb}
+use Rattle.std.proofs.Common.{◌≡◌, ℕ, zero, suc, ◌+◌, ◌*◌, ◌<◌, ◌≤◌, Bool, true, false, ◌||◌, eqb, ◌⊎◌, List, [], ◌∷◌, ◌++◌, map, length, get_or, take, set, vec_items, sym, refl, ap, ◌∙◌, subst, inl, inr, arith, length-take, get_or-take, eq-eqb}
 use lib.ListN.{length-map}
 use Rattle.std.specs.List.{remove}
 use Rattle.std.proofs.lemmas.Bool.{cases_lt}
@@ -70,7 +70,7 @@ pub unranked : (n : ℕ) (ts : List Task) → has_rank n ts ≡ false → (k : �
 unranked n [] e k h g = omega arith
 unranked n (t ∷ ts) e k h g = way (eqb t.rank n) refl k h g e (unranked n ts)
   where
-    way : (b : Bool) → eqb t.rank n ≡ b → (k : ℕ) → k < suc (length (ranks ts)) → get_or (t.rank ∷ ranks ts) k 0 ≡ n → cond b true (has_rank n ts) ≡ false
+    way : (b : Bool) → eqb t.rank n ≡ b → (k : ℕ) → k < suc (length (ranks ts)) → get_or (t.rank ∷ ranks ts) k 0 ≡ n → (b || has_rank n ts) ≡ false
         → (has_rank n ts ≡ false → (k : ℕ) → k < length (ranks ts) → get_or (ranks ts) k 0 ≡ n → ⊥) → ⊥
     way true q k h g e next = let z : true ≡ false = e in let o : ◌≡◌ {A = ℕ} 0 1 = cc in omega arith
     way false q zero h g e next = let z : false ≡ true = sym q ∙ eq-eqb t.rank n g in let o : ◌≡◌ {A = ℕ} 0 1 = cc in omega arith
@@ -98,19 +98,6 @@ set_beyond [] zero y h = refl
 set_beyond [] (suc i) y h = refl
 set_beyond (x ∷ xs) zero y h = absurd (omega arith)
 set_beyond (x ∷ xs) (suc i) y h = ap (λ zs. x ∷ zs) (set_beyond xs i y (omega arith))
-
--- ---- a search for a rank
-
-pub ranked_here : (n : ℕ) (ts : List Task) (i : ℕ) (x : Task) → i < length ts → x ≡ get_or ts i x → x.rank ≡ n → has_rank n (drop i ts) ≡ true
-ranked_here n [] i x h e g = absurd (omega arith)
-ranked_here n (t ∷ ts) zero x h e g = let q : eqb t.rank n ≡ true = eq-eqb t.rank n (sym (ap rank_of e) ∙ g) in rw q
-ranked_here n (t ∷ ts) (suc i) x h e g = ranked_here n ts i x (omega arith) e g
-
-pub ranked_next : (n : ℕ) (ts : List Task) (i : ℕ) (x : Task) → i < length ts → x ≡ get_or ts i x → (x.rank ≡ n → ⊥)
-    → has_rank n (drop (i + 1) ts) ≡ has_rank n (drop i ts)
-ranked_next n [] i x h e g = absurd (omega arith)
-ranked_next n (t ∷ ts) zero x h e g = let q : eqb t.rank n ≡ false = ne_eqb t.rank n (λ p. g (ap rank_of e ∙ p)) in rw q
-ranked_next n (t ∷ ts) (suc i) x h e g = let s : suc i + 1 ≡ suc (i + 1) = omega arith in rw s (ranked_next n ts i x (omega arith) e g)
 
 -- ---- a set as a value
 

@@ -1,16 +1,18 @@
 -- How many jobs of a task fall into a window, and when they do.
-use Rattle.std.specs.Prelude.{◌≡◌, ℕ, zero, suc, ◌+◌, ◌-◌, ◌*◌, ◌/◌, ◌<◌, ◌≤◌, List, [], ◌∷◌, length, take, slice_index_or}
-use Rattle.std.proofs.Common.{sym, ap, ◌∙◌, arith, add-mul, mul-le-mul_left, mul-le-mul_right, div-mul-le_self, div-le_self}
+use Rattle.std.specs.Prelude.{◌≡◌, Bool, true, false, cond, get_or, nat_lt, ℕ, ◌+◌, ◌-◌, ◌*◌, ◌/◌, ◌<◌, ◌≤◌, List, length, sum_by}
+use Rattle.std.proofs.Common.{arith, add-mul, mul-le-mul, mul-le-mul_left, mul-le-mul_right, div-mul-le_self, div-le_self}
 use Rattle.std.proofs.lemmas.Nat.{div_below}
 use Rattle.std.proofs.lemmas.Bool.Decides.{nat_tests}
 use Rattle.processor.specs.Limits.{top_speed}
 use Rattle.processor.specs.Drives.{peak}
 use Rattle.processor.specs.declared.drive.Drive.{Drive}
 use Rattle.processor.specs.declared.drive.Drive.TheVariants.{Fixed, Pair as Turns}
-use Rattle.std.proofs.lemmas.List.{take_all}
+use Rattle.std.proofs.lemmas.List.Folds.{fold-map}
+use Rattle.std.proofs.lemmas.List.Sums.{sum_by-le}
+use Rattle.demand.specs.Limits.{longest_fixed, longest_period, most_charge}
 use Rattle.demand.specs.declared.task.Task.{Task}
 use Rattle.demand.specs.Charges.{Charged, charge, charges}
-use Rattle.demand.specs.Demand.{jobs, releases, total}
+use Rattle.demand.specs.Demand.{jobs, releases, taken_cycles, above}
 
 -- no more jobs arrive in a window than it has microseconds
 pub releases_le : (T t : ℕ) → 1 ≤ T → releases T t ≤ t
@@ -39,22 +41,33 @@ turn_within T t k h =
     let m : (k + 1) * T ≤ t / T * T = mul-le-mul_right T (omega arith) in
     omega arith
 
--- one task more in a sum
-pub total_next : (f : Charged → ℕ) (peak : ℕ) (ts : List Task) (i : ℕ) (x : Task) → i < length ts → x ≡ slice_index_or ts i x
-    → total f (charges peak (take (i + 1) ts)) ≡ total f (charges peak (take i ts)) + f (charge peak x)
-unfolding total
-total_next f peak [] i x h e = absurd (omega arith)
-total_next f peak (y ∷ ts) zero x h e = ap (λ v. f (charge peak v) + 0) (sym e) ∙ omega arith
-total_next f peak (y ∷ ts) (suc i) x h e =
-    let ih = total_next f peak ts i x (omega arith) e in
-    let s : suc i + 1 ≡ suc (i + 1) = omega arith in
-    rw s (omega arith)
-
--- and all of them
-pub total_all : (f : Charged → ℕ) (peak : ℕ) (ts : List Task) (i : ℕ) → length ts ≤ i → total f (charges peak (take i ts)) ≡ total f (charges peak ts)
-total_all f peak ts i h = ap (λ v. total f (charges peak v)) (take_all i ts h)
+-- a sum over charged tasks
+pub sum_charged : (f : Charged → ℕ) (top : ℕ) (ts : List Task) → sum_by f (charges top ts) ≡ sum_by (λ t. f (charge top t)) ts
+sum_charged f top ts = fold-map (λ a c. a + f c) (charge top) 0 ts
 
 -- no drive is faster than the fastest mode may be
 pub peak_limit : (d : Drive) → peak d ≤ top_speed
 peak_limit (Fixed m) = m.slow
 peak_limit (Turns p) = p.high.slow
+
+pub charge_le : (top : ℕ) (t : Task) → top ≤ top_speed → (charge top t).cycles ≤ most_charge
+charge_le top t h = let m : t.fixed * top ≤ longest_fixed * top_speed = mul-le-mul t.brief h in omega (arith, t.light)
+
+-- no task takes more cycles within a period
+pub taken_le : (rank w top : ℕ) (t : Task) → w ≤ longest_period → top ≤ top_speed → taken_cycles rank w (charge top t) ≤ longest_period * most_charge
+taken_le rank w top t h k = way (nat_lt t.rank rank)
+  where
+    most : releases t.period w * (charge top t).cycles ≤ longest_period * most_charge
+    most =
+        let few : releases t.period w ≤ longest_period = omega (arith, releases_le t.period w (omega (arith, t.due, t.constrained))) in
+        mul-le-mul few (charge_le top t k)
+
+    way : (b : Bool) → cond b (releases t.period w * (charge top t).cycles) 0 ≤ longest_period * most_charge
+    way true = most
+    way false = omega arith
+
+pub above_le : (rank w top : ℕ) (ts : List Task) → w ≤ longest_period → top ≤ top_speed → above rank (charges top ts) w ≤ length ts * (longest_period * most_charge)
+unfolding above
+above_le rank w top ts h k =
+    rw (sum_charged (taken_cycles rank w) top ts)
+    (sum_by-le (λ t. taken_cycles rank w (charge top t)) (longest_period * most_charge) ts (λ i d l. taken_le rank w top (get_or ts i d) h k))

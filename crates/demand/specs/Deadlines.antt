@@ -4,9 +4,10 @@ use Rattle.std.proofs.Common.{sym, ◌∙◌, ap, ap₂, subst, inl, inr, arith,
 use mathlib.Core.List.{Memᴰ}
 use Rattle.std.proofs.Math.Nat.{div-eq_of_lt, add-mul-div_right}
 use Rattle.std.proofs.lemmas.Bool.{cases_lt}
+use Rattle.std.proofs.lemmas.List.Sums.{sum_by-cons}
 use Rattle.demand.specs.Charges.{Charged}
 use Rattle.supply.specs.Laws.{Lawful}
-use Rattle.demand.specs.Demand.{total, demand, EdfFull}
+use Rattle.demand.specs.Demand.{demand, due_cycles, EdfFull}
 use Rattle.demand.specs.Listings.{Deadline, due, end}
 use Rattle.demand.specs.Points.{Fit, AllFit, Shared, EdfPoints, jobs_of, first, rest}
 use Rattle.demand.specs.Floors.{jobs_floor, floor_step}
@@ -76,19 +77,21 @@ bound_jobs c f h k b =
     let j : suc k ≤ (h + (c.period - c.deadline)) / c.period = (le-div_iff_mul-le f.period).1 g in
     subst (λ x. suc k ≤ x) (sym (jobs_is c f h)) j
 
+demand_cons : (c : Charged) (cs : List Charged) (t : ℕ) → demand (c ∷ cs) t ≡ jobs_of c t * c.cycles + demand cs t
+unfolding demand
+demand_cons c cs t = sum_by-cons (due_cycles t) c cs
+
 pub demand_none : (cs : List Charged) → AllFit cs → demand cs 0 ≡ 0
-unfolding demand total
-demand_none [] f = refl
+demand_none [] f = unfold demand in refl
 demand_none (c ∷ cs) f =
     let below : demand cs 0 ≡ 0 = demand_none cs (rest f) in
-    ap₂ (λ x y. x * c.cycles + y) (jobs_none c (first f)) below ∙ omega arith
+    demand_cons c cs 0 ∙ ap₂ (λ x y. x * c.cycles + y) (jobs_none c (first f)) below ∙ omega arith
 
 -- the demand grows only at a deadline
 pub demand_step : (cs : List Charged) → AllFit cs → (t : ℕ) →
     (demand cs (suc t) ≤ demand cs t) ⊎ ((c : Charged) × Memᴰ c cs × ((k : ℕ) × (suc t ≡ c.deadline + k * c.period)))
-unfolding demand total
-demand_step [] f t = inl (omega arith)
-demand_step (c ∷ cs) f t = way (jobs_step c (first f) t) (demand_step cs (rest f) t)
+demand_step [] f t = unfold demand in inl (omega arith)
+demand_step (c ∷ cs) f t = rw (demand_cons c cs t, demand_cons c cs (suc t)) (way (jobs_step c (first f) t) (demand_step cs (rest f) t))
   where
     way : (jobs_of c (suc t) ≡ jobs_of c t) ⊎ ((k : ℕ) × (suc t ≡ c.deadline + k * c.period))
         → (demand cs (suc t) ≤ demand cs t) ⊎ ((d : Charged) × Memᴰ d cs × ((k : ℕ) × (suc t ≡ d.deadline + k * d.period)))
@@ -100,13 +103,12 @@ demand_step (c ∷ cs) f t = way (jobs_step c (first f) t) (demand_step cs (rest
 
 -- the demand of a common multiple of the periods adds up
 pub demand_join : (cs : List Charged) (h : ℕ) → AllFit cs → Shared cs h → (t : ℕ) → demand cs (t + h) ≡ demand cs t + demand cs h
-unfolding demand total
-demand_join [] h f m t = refl
+demand_join [] h f m t = unfold demand in refl
 demand_join (c ∷ cs) h f m t =
     let n : (k : ℕ) × (h ≡ k * c.period) = m c (Memᴰ.head refl) in
     let j : jobs_of c (t + h) ≡ jobs_of c t + jobs_of c h = subst (λ x. jobs_of c (t + x) ≡ jobs_of c t + jobs_of c x) (sym n.1) (jobs_join c (first f) n.0 t) in
     let below : demand cs (t + h) ≡ demand cs t + demand cs h = demand_join cs h (rest f) (λ d i. m d (Memᴰ.tail i)) t in
-    ap₂ (λ x y. x * c.cycles + y) j below ∙ omega arith
+    demand_cons c cs (t + h) ∙ ap₂ (λ x y. x * c.cycles + y) j below ∙ omega (arith, demand_cons c cs t, demand_cons c cs h)
 
 module _ {peak : ℕ} {Z : ℕ → ℕ} (laws : Lawful peak Z) (cs : List Charged) (fit : AllFit cs) (h : ℕ) (positive : 1 ≤ h) (common : Shared cs h) where
   -- up to h the demand is that of the last deadline

@@ -1,12 +1,7 @@
 -- What the two policies ask of a supply.
-use Rattle.std.specs.Prelude.{ℕ, ◌+◌, ◌-◌, ◌*◌, ◌/◌, ◌≤◌, cond, List, [], ◌∷◌, nat_lt}
+use Rattle.std.specs.Prelude.{ℕ, ◌+◌, ◌-◌, ◌*◌, ◌/◌, ◌≤◌, cond, List, nat_lt, sum_by}
 use mathlib.Core.List.{Memᴰ}
 use Rattle.demand.specs.Charges.{Charged}
-
--- the sum of a figure over tasks
-unfoldable pub total : (Charged → ℕ) → List Charged → ℕ
-total f [] = 0
-total f (c ∷ cs) = f c + total f cs
 
 -- the jobs of a deadline and a period that arrive and are due within t
 abbrev pub jobs : ℕ → ℕ → ℕ → ℕ
@@ -18,7 +13,7 @@ due_cycles t c = jobs c.deadline c.period t * c.cycles
 
 -- the sum over all tasks
 unfoldable pub demand : List Charged → ℕ → ℕ
-demand cs t = total (due_cycles t) cs
+demand cs t = sum_by (due_cycles t) cs
 
 -- earliest deadline first: in every window the demand is supplied
 abbrev pub EdfFull : List Charged → (ℕ → ℕ) → Type 0
@@ -34,7 +29,7 @@ taken_cycles rank t c = cond (nat_lt c.rank rank) (releases c.period t * c.cycle
 
 -- the sum over all tasks
 unfoldable pub above : ℕ → List Charged → ℕ → ℕ
-above rank cs t = total (taken_cycles rank t) cs
+above rank cs t = sum_by (taken_cycles rank t) cs
 
 -- fixed priority: each task has a time by its deadline at which it and all above it are supplied
 abbrev pub FpFull : List Charged → (ℕ → ℕ) → Type 0

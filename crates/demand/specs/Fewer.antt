@@ -1,13 +1,14 @@
 -- A set with one task less asks no more.
-use Rattle.std.specs.Prelude.{◌≡◌, ℕ, zero, suc, ◌+◌, ◌≤◌, List, [], ◌∷◌, map, refl}
+use Rattle.std.specs.Prelude.{◌≡◌, ℕ, zero, suc, ◌+◌, ◌≤◌, List, [], ◌∷◌, map, sum_by, refl}
 use Rattle.std.proofs.Common.{ap}
 use mathlib.Core.List.Memᴰ
 use mathlib.Core.List.{Memᴰ}
 use native.Mathlib.Omega.{arith}
 use Rattle.std.proofs.Math.Nat.{le_trans}
 use Rattle.std.specs.List.{remove}
+use Rattle.std.proofs.lemmas.List.Sums.{sum_by-cons}
 use Rattle.demand.specs.Charges.{Charged}
-use Rattle.demand.specs.Demand.{total, due_cycles, taken_cycles, demand, above, EdfFull, FpFull}
+use Rattle.demand.specs.Demand.{due_cycles, taken_cycles, demand, above, EdfFull, FpFull}
 
 -- ---- the task at a place left out
 
@@ -24,31 +25,30 @@ member_removed (y ∷ xs) zero x m = Memᴰ.tail m
 member_removed (y ∷ xs) (suc i) x (Memᴰ.head e) = Memᴰ.head e
 member_removed (y ∷ xs) (suc i) x (Memᴰ.tail m) = Memᴰ.tail (member_removed xs i x m)
 
-pub total_removed : (f : Charged → ℕ) (cs : List Charged) (i : ℕ) → total f (remove cs i) ≤ total f cs
-unfolding total
-total_removed f [] zero = omega arith
-total_removed f [] (suc i) = omega arith
-total_removed f (c ∷ cs) zero = omega arith
-total_removed f (c ∷ cs) (suc i) = let below : total f (remove cs i) ≤ total f cs = total_removed f cs i in omega arith
+sum_by_removed : (f : Charged → ℕ) (cs : List Charged) (i : ℕ) → sum_by f (remove cs i) ≤ sum_by f cs
+sum_by_removed f [] zero = omega arith
+sum_by_removed f [] (suc i) = omega arith
+sum_by_removed f (c ∷ cs) zero = omega (arith, sum_by-cons f c cs)
+sum_by_removed f (c ∷ cs) (suc i) = omega (arith, sum_by_removed f cs i, sum_by-cons f c cs, sum_by-cons f c (remove cs i))
 
 module _ (Z : ℕ → ℕ) (cs : List Charged) (i : ℕ) where
   pub edf_removed : EdfFull cs Z → EdfFull (remove cs i) Z
   unfolding demand
-  edf_removed f t b = le_trans (total_removed (due_cycles t) cs i) (f t b)
+  edf_removed f t b = le_trans (sum_by_removed (due_cycles t) cs i) (f t b)
 
   pub fp_removed : FpFull cs Z → FpFull (remove cs i) Z
   unfolding above
   fp_removed f d m = same (f d (member_removed cs i d m))
     where
-      same : (t : ℕ) × ((1 ≤ t) × (t ≤ d.deadline) × (d.cycles + total (taken_cycles d.rank t) cs ≤ Z t))
-          → (t : ℕ) × ((1 ≤ t) × (t ≤ d.deadline) × (d.cycles + total (taken_cycles d.rank t) (remove cs i) ≤ Z t))
-      same (t, (b, e, h)) = (t, (b, e, omega (arith, h, total_removed (taken_cycles d.rank t) cs i)))
+      same : (t : ℕ) × ((1 ≤ t) × (t ≤ d.deadline) × (d.cycles + sum_by (taken_cycles d.rank t) cs ≤ Z t))
+          → (t : ℕ) × ((1 ≤ t) × (t ≤ d.deadline) × (d.cycles + sum_by (taken_cycles d.rank t) (remove cs i) ≤ Z t))
+      same (t, (b, e, h)) = (t, (b, e, omega (arith, h, sum_by_removed (taken_cycles d.rank t) cs i)))
 
 -- ---- no task
 
 module _ (Z : ℕ → ℕ) where
   pub edf_empty : EdfFull [] Z
-  unfolding demand total
+  unfolding demand
   edf_empty t b = omega arith
 
   pub fp_empty : FpFull [] Z

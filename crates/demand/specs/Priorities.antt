@@ -3,9 +3,10 @@ use Rattle.std.specs.Prelude.{◌≡◌, ℕ, zero, suc, ◌+◌, ◌-◌, ◌*�
 use Rattle.std.proofs.Common.{ap, inl, inr, arith}
 use mathlib.Core.List.{Memᴰ}
 use Rattle.std.proofs.lemmas.Bool.{ltb-true}
+use Rattle.std.proofs.lemmas.List.Sums.{sum_by-cons}
 use Rattle.demand.specs.Charges.{Charged}
 use Rattle.supply.specs.Laws.{Lawful}
-use Rattle.demand.specs.Demand.{total, above, FpFull}
+use Rattle.demand.specs.Demand.{taken_cycles, above, FpFull}
 use Rattle.demand.specs.Points.{AllFit, Release, at, last, FpPoints, releases_of, first, rest}
 use Rattle.demand.specs.Floors.{ceil_step}
 use Rattle.demand.specs.Supplies.{monotone}
@@ -14,12 +15,15 @@ use Rattle.demand.specs.Supplies.{monotone}
 abbrev Released : ℕ → List Charged → ℕ → Type 0
 Released rank cs t = (c : Charged) × Memᴰ c cs × (c.rank < rank) × ((k : ℕ) × (t ≡ k * c.period))
 
+above_cons : (rank : ℕ) (c : Charged) (cs : List Charged) (t : ℕ) → above rank (c ∷ cs) t ≡ taken_cycles rank t c + above rank cs t
+unfolding above
+above_cons rank c cs t = sum_by-cons (taken_cycles rank t) c cs
+
 -- what the tasks above take grows only after a release
 pub above_step : (rank : ℕ) (cs : List Charged) → AllFit cs → (t : ℕ) → (above rank cs (suc t) ≤ above rank cs t) ⊎ Released rank cs t
-unfolding above total
-above_step rank [] f t = inl (omega arith)
+above_step rank [] f t = unfold above in inl (omega arith)
 above_step rank (c ∷ cs) f t =
-    way (nat_lt c.rank rank) refl (ceil_step t c.period (first f).period) (above_step rank cs (rest f) t)
+    rw (above_cons rank c cs t, above_cons rank c cs (suc t)) (way (nat_lt c.rank rank) refl (ceil_step t c.period (first f).period) (above_step rank cs (rest f) t))
   where
     way : (b : Bool) → nat_lt c.rank rank ≡ b
         → (releases_of c (suc t) ≡ releases_of c t) ⊎ ((k : ℕ) × (t ≡ k * c.period))

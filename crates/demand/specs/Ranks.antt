@@ -1,5 +1,6 @@
 -- The ranks of a list of tasks.
-use Rattle.std.specs.Prelude.{ℕ, ◌<◌, ◌≤◌, Bool, true, false, cond, List, [], ◌∷◌, map, length, ◌==◌, ◌≢◌, slice_index}
+use Rattle.std.specs.Prelude.{ℕ, ◌<◌, ◌≤◌, Bool, List, map, length, ◌==◌, ◌≢◌, slice_index}
+use Rattle.std.specs.List.{list_any}
 use Rattle.demand.specs.declared.task.Task.{Task}
 use Rattle.demand.specs.Limits.{most_tasks}
 
@@ -12,8 +13,7 @@ Distinct ns = (i j : ℕ) → i < j → j < length ns → slice_index ns i ≢ s
 
 -- whether a task has the rank
 abbrev pub has_rank : ℕ → List Task → Bool
-has_rank n [] = false
-has_rank n (t ∷ ts) = cond (t.rank == n) true (has_rank n ts)
+has_rank n ts = list_any (λ t. t.rank == n) ts
 
 -- a set that a plan may hold: at most sixteen tasks, no two of one rank
 pub record Set (ts : List Task) : Type 0 where

@@ -1,7 +1,7 @@
 ghost use Rattle.std.specs.Prelude.{◌≡◌, ℕ, ◌+◌, ◌*◌, ◌<◌, ◌≤◌, ◌↔◌, [], length, IfSome, MatchOption, nat_le, slice_index_or};
-ghost use Rattle.demand.specs.Limits.{longest_span, most_tasks};
-ghost use Rattle.demand.specs.Charges.{charges};
-ghost use Rattle.demand.specs.Demand.{demand, jobs, EdfFull};
+ghost use Rattle.demand.specs.Limits.{longest_span, most_charge, most_tasks};
+ghost use Rattle.demand.specs.Charges.{charge, charges};
+ghost use Rattle.demand.specs.Demand.{demand, due_cycles, jobs, EdfFull};
 ghost use Rattle.demand.specs.Hyper.{gcd, lcm, hyper, periods, within_span, edf_span, Least};
 ghost use Rattle.demand.specs.Listings.{edf_groups, edf_times, Deadline, hyper_of, edf_group};
 ghost use Rattle.std.specs.List.{slice_get, remove};
@@ -82,6 +82,15 @@ impl Task {
         }
         Some(self.deadline + job * self.period)
     }
+
+    // The cycles of the jobs that arrive and are due within a window.
+    fn due_cycles(&self, drive: &Drive, window: u32) -> u64
+        requires { window ≤ longest_span }
+        ensures value { result ≡ due_cycles window (charge (peak drive.now) self.now) }
+        ensures bound { result ≤ longest_span * most_charge }
+    {
+        u64::from(self.jobs(window)) * self.charge(drive)
+    }
 }
 
 // The deadlines up to an end, task by task, and at last the end.
@@ -107,11 +116,10 @@ fn due_cycles(tasks: &[Task], drive: &Drive, window: u32) -> u64
     requires short { window ≤ longest_span }
     ensures { result ≡ demand (charges (peak drive.now) tasks.now) window }
 {
-    let mut sum = 0;
-    'jobs: for task in tasks {
-        sum += u64::from(task.jobs(window)) * task.charge(drive);
-    }
-    sum
+    tasks
+        .iter()
+        .map(|task| task.due_cycles(drive, window))
+        .sum()
 }
 
 impl Policy for Edf {

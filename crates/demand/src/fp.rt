@@ -72,11 +72,11 @@ fn taken_cycles(tasks: &[Task], task: &Task, drive: &Drive, window: u32) -> u64
     requires short { window ≤ longest_period }
     ensures { result ≡ (charge (peak drive.now) task.now).cycles + above task.now.rank (charges (peak drive.now) tasks.now) window }
 {
-    let mut sum = task.charge(drive);
-    'above: for other in tasks {
-        sum += other.taken(task.rank, drive, window);
-    }
-    sum
+    let above: u64 = tasks
+        .iter()
+        .map(|other| other.taken(task.rank, drive, window))
+        .sum();
+    task.charge(drive) + above
 }
 
 impl Policy for Fp {

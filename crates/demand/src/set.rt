@@ -21,18 +21,6 @@ pub struct TaskSet {
     ghost apart: { Distinct (ranks tasks.items) },
 }
 
-// Whether a task has this rank.
-fn ranked(tasks: &[Task], rank: u32) -> bool
-    ensures { result ≡ has_rank rank tasks.now }
-{
-    'ranks: for task in tasks {
-        if task.rank == rank {
-            return true;
-        }
-    }
-    false
-}
-
 impl TaskSet {
     // A set of no tasks.
     pub fn new(heap: Global) -> Result<TaskSet, AllocError>
@@ -53,7 +41,7 @@ impl TaskSet {
     pub fn has_rank(&self, rank: u32) -> bool
         ensures { result ≡ has_rank rank self.now.tasks.items }
     {
-        ranked(self.tasks(), rank)
+        self.tasks().iter().any(|task| task.rank == rank)
     }
 
     // Takes one task more.
