@@ -1,5 +1,5 @@
 -- Sets of tasks: whose ranks differ, and what an edit leaves of that.
-use Rattle.std.proofs.Common.{◌≡◌, ℕ, zero, suc, ◌+◌, ◌*◌, ◌<◌, ◌≤◌, Bool, true, false, ◌||◌, eqb, ◌⊎◌, List, [], ◌∷◌, ◌++◌, map, length, get_or, take, set, vec_items, sym, refl, ap, ◌∙◌, subst, inl, inr, arith, length-take, get_or-take, eq-eqb}
+use Rattle.std.proofs.Common.{◌≡◌, ℕ, zero, suc, ◌+◌, ◌*◌, ◌<◌, ◌≤◌, Bool, true, false, ◌||◌, eqb, ◌⊎◌, List, [], ◌∷◌, ◌++◌, map, length, get_or, take, set, sym, refl, ap, ◌∙◌, subst, inl, inr, arith, length-take, get_or-take, eq-eqb}
 use lib.ListN.{length-map}
 use Rattle.std.specs.List.{remove}
 use Rattle.std.proofs.lemmas.Bool.{cases_lt}
@@ -7,11 +7,10 @@ use Rattle.std.proofs.lemmas.List.{take-map, get_or_append_left, get_or_push, le
 use Rattle.std.proofs.lemmas.List.Edits.{length-remove, get_or-remove_below, get_or-remove_above}
 use Rattle.demand.specs.declared.task.Task.{Task}
 use Rattle.demand.specs.declared.task.Figures.{Figures}
-use Rattle.demand.specs.declared.set.TaskSet.{TaskSet}
 use Rattle.demand.specs.Figures.{figures_of, with_work, no_figures, times_of}
 use Rattle.demand.specs.Charges.{charges}
 use Rattle.demand.specs.Fewer.{map_removed}
-use Rattle.demand.specs.Ranks.{Distinct, ranks, has_rank, Set}
+use Rattle.demand.specs.Ranks.{Distinct, ranks, has_rank}
 
 -- ---- lists of numbers
 
@@ -98,11 +97,6 @@ set_beyond [] zero y h = refl
 set_beyond [] (suc i) y h = refl
 set_beyond (x ∷ xs) zero y h = absurd (omega arith)
 set_beyond (x ∷ xs) (suc i) y h = ap (λ zs. x ∷ zs) (set_beyond xs i y (omega arith))
-
--- ---- a set as a value
-
-pub set_is : (s : TaskSet) → Set (vec_items s.tasks)
-set_is s = let l = s.tasks.ok.0 in record { few = omega (arith, s.few, l); apart = s.apart }
 
 -- ---- what reads only the figures
 

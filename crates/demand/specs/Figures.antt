@@ -1,5 +1,7 @@
 -- The figures of a task, and which of them a task may have.
-use Rattle.std.specs.Prelude.{ℕ, ◌≤◌}
+use Rattle.std.specs.Prelude.{◌≡◌, ℕ, ◌≤◌, Result, MatchResult}
+use Rattle.processor.specs.declared.refusal.Refusal.{Refusal}
+use Rattle.processor.specs.declared.refusal.Refusal.TheVariants.{TaskFigure}
 use Rattle.demand.specs.declared.task.Figures.{Figures}
 use Rattle.demand.specs.declared.task.Task.{Task}
 use Rattle.demand.specs.Limits.{last_rank, most_cycles, longest_fixed, longest_period}
@@ -17,6 +19,10 @@ pub record Within (f : Figures) : Type 0 where
 
 abbrev pub figures_of : Task → Figures
 figures_of t = record { rank = t.rank; cycles = t.cycles; fixed = t.fixed; period = t.period; deadline = t.deadline }
+
+-- the task of figures that are within their limits, and a refusal of others
+abbrev pub TaskOf : Figures → Result Task Refusal → Type 0
+TaskOf f r = MatchResult r (λ t. Within f × (figures_of t ≡ f)) (λ e. (e ≡ TaskFigure) × (Within f → ⊥))
 
 -- other cycles and another fixed time, and all else the same
 abbrev pub with_work : ℕ → ℕ → Figures → Figures

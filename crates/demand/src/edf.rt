@@ -30,7 +30,7 @@ use processor::drive::Drive;
 pub const LONGEST_SPAN: u32 = 1_000_000;
 
 // Earliest deadline first.
-#[derive(Clone, Copy)]
+#[derive(Clone, Copy, PartialEq, Eq, Debug)]
 pub struct Edf;
 
 // The greatest common divisor, by Euclid.

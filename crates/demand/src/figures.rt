@@ -1,15 +1,16 @@
-ghost use Rattle.std.specs.Prelude.{◌≡◌, Decides, MatchResult};
-ghost use Rattle.processor.specs.declared.refusal.Refusal.TheVariants.{TaskFigure};
-ghost use Rattle.demand.specs.Figures.{Within, Work, figures_of, with_work};
+ghost use Rattle.std.specs.Prelude.{◌≡◌, Decides};
+ghost use Rattle.demand.specs.Figures.{TaskOf, Work, figures_of, with_work};
 
 use crate::task::{Figures, LAST_RANK, LONGEST_FIXED, LONGEST_PERIOD, MOST_CYCLES, Task};
 use processor::refusal::Refusal;
 
-impl Task {
+impl TryFrom<Figures> for Task {
+    type Error = Refusal;
+
+    ghost try_from_gives = { TaskOf };
+
     // The task of these figures, where each is within its limits.
-    pub fn new(figures: Figures) -> Result<Task, Refusal>
-        ensures { MatchResult result (λ t. Within figures × (figures_of t ≡ figures)) (λ e. (e ≡ TaskFigure) × (Within figures → ⊥)) }
-    {
+    fn try_from(figures: Figures) -> Result<Task, Refusal> {
         let Figures {
             rank,
             cycles,
@@ -34,7 +35,9 @@ impl Task {
             deadline,
         })
     }
+}
 
+impl Task {
     // Whether a job may take so many cycles and such a fixed time.
     pub fn takes(cycles: u32, fixed: u32) -> bool
         ensures { Decides result (Work cycles fixed) }

@@ -20,7 +20,7 @@ use crate::task::Task;
 use processor::drive::Drive;
 
 // Fixed priority: of the tasks that wait, the one of the smallest rank runs.
-#[derive(Clone, Copy)]
+#[derive(Clone, Copy, PartialEq, Eq, Debug)]
 pub struct Fp;
 
 impl Task {

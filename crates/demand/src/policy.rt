@@ -24,13 +24,13 @@ pub trait Policy {
 
     // Whether the set is one that the policy can decide.
     fn spans(&self, set: &TaskSet) -> bool
-        ensures { result ≡ span self.now set.now.tasks.items };
+        ensures { result ≡ span self.now set.now };
 
     // A point of a group: a time, and the cycles that have to be supplied by it. None beyond the list. The set meets
     // its deadlines if in each group some point is supplied.
     fn point(&self, set: &TaskSet, drive: &Drive, group: u32, index: u32) -> Option<(u32, u64)>
-        ensures within { index < length (slice_index_or (groups self.now (charges (peak drive.now) set.now.tasks.items)) group []) → result ≡ Some (slice_index_or (slice_index_or (groups self.now (charges (peak drive.now) set.now.tasks.items)) group []) index (0, 0)) }
-        ensures beyond { length (slice_index_or (groups self.now (charges (peak drive.now) set.now.tasks.items)) group []) ≤ index → result ≡ None };
+        ensures within { index < length (slice_index_or (groups self.now (charges (peak drive.now) set.now)) group []) → result ≡ Some (slice_index_or (slice_index_or (groups self.now (charges (peak drive.now) set.now)) group []) index (0, 0)) }
+        ensures beyond { length (slice_index_or (groups self.now (charges (peak drive.now) set.now)) group []) ≤ index → result ≡ None };
 
     // the test at the points decides
     ghost exact: { (p : Self) (ts : List Task) → Set ts → span p ts ≡ true → (top : ℕ) (Z : ℕ → ℕ) → Lawful top Z → Passes Z (groups p (charges top ts)) ↔ full p (charges top ts) Z };

@@ -14,7 +14,7 @@ pub const LONGEST_FIXED: u32 = 1_000_000;
 pub const LONGEST_PERIOD: u32 = 1_000_000;
 
 // The figures of a task as they are handed in, within any limits or not.
-#[derive(Clone, Copy)]
+#[derive(Clone, Copy, PartialEq, Eq, Debug)]
 pub struct Figures {
     pub rank: u32,
     pub cycles: u32,
@@ -25,7 +25,7 @@ pub struct Figures {
 
 // A periodic task. Each job takes so many cycles, and a fixed time on top that no speed shortens; it is due at the
 // deadline after its release. A smaller rank goes first.
-#[derive(Clone, Copy)]
+#[derive(Clone, Copy, PartialEq, Eq, Debug)]
 pub struct Task {
     pub rank: u32,
     pub cycles: u32,

@@ -9,7 +9,7 @@ use std::test::Fail;
 
 // A task of one cycle that is due by its next release.
 fn task(rank: u32, period: u32) -> Result<Task, Refusal> {
-    Task::new(Figures {
+    Task::try_from(Figures {
         rank,
         cycles: 1,
         fixed: 0,
@@ -19,7 +19,7 @@ fn task(rank: u32, period: u32) -> Result<Task, Refusal> {
 }
 
 fn taken(rank: u32, cycles: u32, fixed: u32, period: u32, deadline: u32) -> bool {
-    Task::new(Figures {
+    Task::try_from(Figures {
         rank,
         cycles,
         fixed,

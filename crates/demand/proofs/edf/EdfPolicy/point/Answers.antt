@@ -1,4 +1,4 @@
-use Rattle.std.proofs.Common.{◌≡◌, List, [], get_or, Some, None, vec_items, ◌∙◌, subst, arith}
+use Rattle.std.proofs.Common.{◌≡◌, List, [], get_or, Some, None, ◌∙◌, subst, arith}
 use Rattle.std.specs.List.{slice_get}
 use Rattle.processor.specs.Drives.{peak}
 use Rattle.demand.specs.declared.task.Task.{Task}
@@ -12,7 +12,7 @@ use Rattle.demand.proofs.edf.EdfPolicy.point.Goals as goal
 
 pub returns-then-index-gt0 : goal.returns-then-index-gt0
 returns-then-index-gt0 c =
-    let cs = charges (peak c.args.drive.now) (vec_items c.args.set.now.tasks) in
+    let cs = charges (peak c.args.drive.now) (c.args.set.now) in
     let e = edf_one cs c.args.group c.args.index c.if-index-gt0.true in
     let G = get_or (edf_groups cs) c.args.group [] in
     record { within = place_within G c.args.index None e; beyond = place_beyond G c.args.index None e }
@@ -20,7 +20,7 @@ returns-then-index-gt0 c =
 pub returns-in_err-hyper : goal.returns-in_err-hyper
 returns-in_err-hyper c =
     let top = peak c.args.drive.now in
-    let ts = vec_items c.args.set.now.tasks in
+    let ts = c.args.set.now in
     let P : List Task → Type 0 = λ us. None ≡ within_span (hyper (periods us)) in
     let n = subst P c.tasks-tasks.ensures.value c.in_err-hyper.ensures.value in
     let e = c.from_residual.ensures ∙ edf_outside top ts c.args.group c.args.index n in
@@ -30,7 +30,7 @@ returns-in_err-hyper c =
 pub returns-in_err-time : goal.returns-in_err-time
 returns-in_err-time c =
     let top = peak c.args.drive.now in
-    let ts = vec_items c.args.set.now.tasks in
+    let ts = c.args.set.now in
     let h = c.in_ok-hyper.hyper in
     let P : List Task → Type 0 = λ us. Some h ≡ within_span (hyper (periods us)) in
     let s = subst P c.tasks-tasks.ensures.value c.in_ok-hyper.ensures.value in
@@ -43,7 +43,7 @@ returns-in_err-time c =
 pub returns : goal.returns
 returns c =
     let top = peak c.args.drive.now in
-    let ts = vec_items c.args.set.now.tasks in
+    let ts = c.args.set.now in
     let h = c.in_ok-hyper.hyper in
     let t = c.in_ok-time.time in
     let w = c.due_cycles.result in
