@@ -1,13 +1,14 @@
 -- What stands at a place of a listing, and how the code comes to it.
-use Rattle.std.proofs.Common.{◌≡◌, ℕ, zero, suc, ◌+◌, ◌-◌, ◌*◌, ◌/◌, ◌<◌, ◌≤◌, List, [], ◌∷◌, ◌++◌, map, length, get_or, drop, IfSome, Some, None, Option, sym, refl, ap, ◌∙◌, arith, le-ltb, lt-ltb, MatchOption}
+use Rattle.std.proofs.Common.{◌≡◌, ℕ, cond, nat_lt, zero, suc, ◌+◌, ◌-◌, ◌*◌, ◌/◌, ◌<◌, ◌≤◌, List, [], ◌∷◌, ◌++◌, map, length, get_or, drop, Some, None, Option, sym, refl, ap, ◌∙◌, arith, le-ltb, lt-ltb, MatchOption}
 use Rattle.std.specs.List.{range_with_len, slice_get}
 use Rattle.std.proofs.lemmas.List.{drop_more, at_drop_all}
 use Rattle.std.proofs.lemmas.Option.{slice_get-get_or, slice_get_past}
 use Rattle.std.proofs.lemmas.List.FromFn.{length-map-range_with_len, get_or-map-range_with_len}
 use Rattle.demand.specs.declared.task.Task.{Task}
-use Rattle.demand.specs.Charges.{Charged, charge, charges}
+use Rattle.demand.specs.declared.times.Times.{Times}
 use Rattle.demand.specs.Demand.{jobs}
-use Rattle.demand.specs.Listings.{edf_times, fp_times}
+use Rattle.demand.specs.Floors.{jobs_floor}
+use Rattle.demand.specs.Listings.{listed, terms}
 
 -- ---- any list
 
@@ -53,11 +54,29 @@ module _ (G : List (ℕ × ℕ)) (i : ℕ) (r : Option (ℕ × ℕ)) (e : r ≡ 
   pub place_beyond : length G ≤ i → r ≡ None
   place_beyond h = e ∙ slice_get_past G i h
 
--- ---- a loop over tasks
+-- ---- what tasks list
 
-pub charges_drop : (top : ℕ) (ts : List Task) (i : ℕ) (x : Task) → i < length ts → x ≡ get_or ts i x
-    → charges top (drop i ts) ≡ charge top x ∷ charges top (drop (i + 1) ts)
-charges_drop top ts i x h e = ap (charges top) (drop_more ts i x h) ∙ ap (λ y. charge top y ∷ charges top (drop (i + 1) ts)) (sym e)
+pub listed_map : {X Y : Type 0} (lists : Y → List ℕ) (v : X → Y) (xs : List X) (h : ℕ) → listed lists (map v xs) h ≡ listed (λ x. lists (v x)) xs h
+listed_map lists v [] h = refl
+listed_map lists v (x ∷ xs) h = ap (λ ys. lists (v x) ++ ys) (listed_map lists v xs h)
+
+-- a period apart from its own first time on, a task lists the ends of its periods
+pub turns_terms : (T d : ℕ) → 1 ≤ T → map (λ k. (k + 1) * T) (range_with_len 0 (d / T)) ≡ terms T T d
+turns_terms T d h = same (d / T) 0 ∙ ap (λ n. map (λ k. T + k * T) (range_with_len 0 n)) (sym count)
+  where
+    same : (n a : ℕ) → map (λ k. (k + 1) * T) (range_with_len a n) ≡ map (λ k. T + k * T) (range_with_len a n)
+    same zero a = refl
+    same (suc n) a = let e : (a + 1) * T ≡ T + a * T = omega arith in rw e (ap (λ ns. (T + a * T) ∷ ns) (same n (a + 1)))
+
+    count : jobs T T d ≡ d / T
+    count = let z : d + (T - T) ≡ d = omega arith in jobs_floor d T T h (omega arith) ∙ ap (λ n. n / T) z
+
+-- what a task lists, if it lists times
+pub turns_listed : (t : Task) (rank d : ℕ) (r : Option Times) → MatchOption r (rank ≤ t.rank) (λ p. (t.rank < rank) × (p.first ≡ t.period) × (p.step ≡ t.period))
+    → MatchOption r (cond (nat_lt t.rank rank) (map (λ k. (k + 1) * t.period) (range_with_len 0 (d / t.period))) [] ≡ [])
+    (λ p. cond (nat_lt t.rank rank) (map (λ k. (k + 1) * t.period) (range_with_len 0 (d / t.period))) [] ≡ terms p.first p.step d)
+turns_listed t rank d None l = rw (le-ltb t.rank rank l)
+turns_listed t rank d (Some p) (l, e, f) = rw (lt-ltb t.rank rank l, e, f) (turns_terms t.period d (omega (arith, t.due, t.constrained)))
 
 -- the k-th of n listed by a function, in front of others
 module _ (f : ℕ → ℕ) (n : ℕ) (ys : List ℕ) (k : ℕ) where
@@ -70,103 +89,33 @@ module _ (f : ℕ → ℕ) (n : ℕ) (ys : List ℕ) (k : ℕ) where
   pub listed_after : n ≤ k → slice_get (map f (range_with_len 0 n) ++ ys) k ≡ slice_get ys (k - n)
   listed_after h = nth_after (map f (range_with_len 0 n)) ys n k (length-map-range_with_len f 0 n) h
 
--- ---- earliest deadline first
+-- at a turn of the walk, and after all turns
+module _ {X : Type 0} (lists : X → List ℕ) (xs : List X) (i h k : ℕ) where
+  abbrev pub at_turn : Option ℕ
+  at_turn = slice_get (listed lists (drop i xs) h) k
 
-module _ (c : Charged) (cs : List Charged) (h k : ℕ) where
-  due_here : k < jobs c.deadline c.period h → slice_get (edf_times (c ∷ cs) h) k ≡ Some (c.deadline + k * c.period)
-  unfolding edf_times
-  due_here l = listed_here (λ k. c.deadline + k * c.period) (jobs c.deadline c.period h) (edf_times cs h) k l
+  abbrev pub at_next : ℕ → Option ℕ
+  at_next n = slice_get (listed lists (drop (i + 1) xs) h) n
 
-  due_after : jobs c.deadline c.period h ≤ k → slice_get (edf_times (c ∷ cs) h) k ≡ slice_get (edf_times cs h) (k - jobs c.deadline c.period h)
-  unfolding edf_times
-  due_after l = listed_after (λ k. c.deadline + k * c.period) (jobs c.deadline c.period h) (edf_times cs h) k l
+  module _ (x : X) (l : i < length xs) (e : x ≡ get_or xs i x) where
+    turn : (ys : List ℕ) → lists x ≡ ys → at_turn ≡ slice_get (ys ++ listed lists (drop (i + 1) xs) h) k
+    turn ys g =
+        ap (λ us. slice_get (listed lists us h) k) (drop_more xs i x l)
+        ∙ ap (λ y. slice_get (lists y ++ listed lists (drop (i + 1) xs) h) k) (sym e)
+        ∙ ap (λ zs. slice_get (zs ++ listed lists (drop (i + 1) xs) h) k) g
 
-due_end : (h k : ℕ) → k ≡ 0 → slice_get (edf_times [] h) k ≡ Some h
-unfolding edf_times
-due_end h zero e = refl
-due_end h (suc k) e = absurd (omega arith)
+    pub turn_none : lists x ≡ [] → at_turn ≡ at_next k
+    turn_none g = turn [] g
 
-due_none : (h k : ℕ) → (k ≡ 0 → ⊥) → slice_get (edf_times [] h) k ≡ None
-unfolding edf_times
-due_none h zero n = absurd (n refl)
-due_none h (suc k) n = refl
+    module _ (first step : ℕ) (g : lists x ≡ terms first step h) where
+      pub turn_here : k < jobs first step h → at_turn ≡ Some (first + k * step)
+      turn_here b = turn (terms first step h) g ∙ listed_here (λ n. first + n * step) (jobs first step h) (listed lists (drop (i + 1) xs) h) k b
 
--- at the task of a turn, and after all turns
-module _ (top : ℕ) (ts : List Task) (i h k : ℕ) where
-  abbrev left_due : Option ℕ
-  left_due = slice_get (edf_times (charges top (drop i ts)) h) k
+      pub turn_after : jobs first step h ≤ k → at_turn ≡ at_next (k - jobs first step h)
+      turn_after b = turn (terms first step h) g ∙ listed_after (λ n. first + n * step) (jobs first step h) (listed lists (drop (i + 1) xs) h) k b
 
-  pub task_due : (x : Task) → i < length ts → x ≡ get_or ts i x → k < jobs x.deadline x.period h → left_due ≡ Some (x.deadline + k * x.period)
-  task_due x l e b = ap (λ cs. slice_get (edf_times cs h) k) (charges_drop top ts i x l e) ∙ due_here (charge top x) (charges top (drop (i + 1) ts)) h k b
+  pub turn_last : length xs ≤ i → k ≡ 0 → at_turn ≡ Some h
+  turn_last l e = at_drop_all (λ us. slice_get (listed lists us h) k) xs i l ∙ ap (slice_get (h ∷ [])) e
 
-  pub task_due_after : (x : Task) → i < length ts → x ≡ get_or ts i x → jobs x.deadline x.period h ≤ k
-      → left_due ≡ slice_get (edf_times (charges top (drop (i + 1) ts)) h) (k - jobs x.deadline x.period h)
-  task_due_after x l e b = ap (λ cs. slice_get (edf_times cs h) k) (charges_drop top ts i x l e) ∙ due_after (charge top x) (charges top (drop (i + 1) ts)) h k b
-
-  pub last_due : length ts ≤ i → k ≡ 0 → left_due ≡ Some h
-  last_due l e = at_drop_all (λ us. slice_get (edf_times (charges top us) h) k) ts i l ∙ due_end h k e
-
-  pub no_due : length ts ≤ i → (k ≡ 0 → ⊥) → left_due ≡ None
-  no_due l n = at_drop_all (λ us. slice_get (edf_times (charges top us) h) k) ts i l ∙ due_none h k n
-
--- ---- fixed priority
-
-module _ (rank d : ℕ) (a : Charged) (cs : List Charged) (k : ℕ) where
-  turn_here : a.rank < rank → k < d / a.period → slice_get (fp_times rank d (a ∷ cs)) k ≡ Some ((k + 1) * a.period)
-  unfolding fp_times
-  turn_here s l = rw (lt-ltb a.rank rank s) (listed_here (λ k. (k + 1) * a.period) (d / a.period) (fp_times rank d cs) k l)
-
-  turn_after : a.rank < rank → d / a.period ≤ k → slice_get (fp_times rank d (a ∷ cs)) k ≡ slice_get (fp_times rank d cs) (k - d / a.period)
-  unfolding fp_times
-  turn_after s l = rw (lt-ltb a.rank rank s) (listed_after (λ k. (k + 1) * a.period) (d / a.period) (fp_times rank d cs) k l)
-
-  turn_skip : rank ≤ a.rank → slice_get (fp_times rank d (a ∷ cs)) k ≡ slice_get (fp_times rank d cs) k
-  unfolding fp_times
-  turn_skip s = rw (le-ltb a.rank rank s)
-
-turn_end : (rank d k : ℕ) → k ≡ 0 → slice_get (fp_times rank d []) k ≡ Some d
-unfolding fp_times
-turn_end rank d zero e = refl
-turn_end rank d (suc k) e = absurd (omega arith)
-
-turn_none : (rank d k : ℕ) → (k ≡ 0 → ⊥) → slice_get (fp_times rank d []) k ≡ None
-unfolding fp_times
-turn_none rank d zero n = absurd (n refl)
-turn_none rank d (suc k) n = refl
-
-module _ (top : ℕ) (ts : List Task) (i rank d k : ℕ) where
-  abbrev left_turn : Option ℕ
-  left_turn = slice_get (fp_times rank d (charges top (drop i ts))) k
-
-  abbrev next_turn : ℕ → Option ℕ
-  next_turn n = slice_get (fp_times rank d (charges top (drop (i + 1) ts))) n
-
-  module _ (x : Task) (l : i < length ts) (e : x ≡ get_or ts i x) where
-    here : left_turn ≡ slice_get (fp_times rank d (charge top x ∷ charges top (drop (i + 1) ts))) k
-    here = ap (λ cs. slice_get (fp_times rank d cs) k) (charges_drop top ts i x l e)
-
-    pub task_turn : x.rank < rank → k < d / x.period → left_turn ≡ Some ((k + 1) * x.period)
-    task_turn s b = here ∙ turn_here rank d (charge top x) (charges top (drop (i + 1) ts)) k s b
-
-    pub task_turn_after : x.rank < rank → d / x.period ≤ k → left_turn ≡ next_turn (k - d / x.period)
-    task_turn_after s b = here ∙ turn_after rank d (charge top x) (charges top (drop (i + 1) ts)) k s b
-
-    pub task_turn_skip : rank ≤ x.rank → left_turn ≡ next_turn k
-    task_turn_skip s = here ∙ turn_skip rank d (charge top x) (charges top (drop (i + 1) ts)) k s
-
-  pub last_turn : length ts ≤ i → k ≡ 0 → left_turn ≡ Some d
-  last_turn l e = at_drop_all (λ us. slice_get (fp_times rank d (charges top us)) k) ts i l ∙ turn_end rank d k e
-
-  pub no_turn : length ts ≤ i → (k ≡ 0 → ⊥) → left_turn ≡ None
-  no_turn l n = at_drop_all (λ us. slice_get (fp_times rank d (charges top us)) k) ts i l ∙ turn_none rank d k n
-
--- ---- the answer of a task, within a count q of them
-
-module _ (q n v w : ℕ) where
-  pub answered : (r : Option ℕ) → MatchOption r (q ≤ n) (λ t. (n < q) × (t ≡ v) × (t ≤ w)) → n < q → r ≡ Some v
-  answered None p h = absurd (omega arith)
-  answered (Some t) (a, e, b) h = ap Some e
-
-  pub answered_early : (r : Option ℕ) → MatchOption r (q ≤ n) (λ t. (n < q) × (t ≡ v) × (t ≤ w)) → IfSome r (λ t. t ≤ w)
-  answered_early None p = tt
-  answered_early (Some t) (a, e, b) = b
+  pub turn_past : length xs ≤ i → (k ≡ 0 → ⊥) → at_turn ≡ None
+  turn_past l n = at_drop_all (λ us. slice_get (listed lists us h) k) xs i l ∙ slice_get_past (h ∷ []) k (omega arith)

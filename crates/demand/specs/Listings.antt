@@ -7,16 +7,24 @@ use Rattle.demand.specs.Charges.{Charged}
 use Rattle.demand.specs.Demand.{jobs, demand, above}
 use Rattle.demand.specs.Hyper.{hyper}
 
+-- the times up to h that come a step apart, from a first one on
+abbrev pub terms : ℕ → ℕ → ℕ → List ℕ
+terms first step h = map (λ k. first + k * step) (range_with_len 0 (jobs first step h))
+
+-- what each lists, one after another, then h
+abbrev pub listed : {X : Type 0} → (X → List ℕ) → List X → ℕ → List ℕ
+listed lists [] h = h ∷ []
+listed lists (x ∷ xs) h = lists x ++ listed lists xs h
+
 -- ---- earliest deadline first: a group of one point for each time
 
 -- the deadlines up to h
 abbrev pub dues : Charged → ℕ → List ℕ
-dues c h = map (λ k. c.deadline + k * c.period) (range_with_len 0 (jobs c.deadline c.period h))
+dues c h = terms c.deadline c.period h
 
 -- the deadlines up to h, task by task, then h
 unfoldable pub edf_times : List Charged → ℕ → List ℕ
-edf_times [] h = h ∷ []
-edf_times (c ∷ cs) h = dues c h ++ edf_times cs h
+edf_times cs h = listed (λ c. dues c h) cs h
 
 abbrev pub edf_group : List Charged → ℕ → List (ℕ × ℕ)
 edf_group cs t = (t, demand cs t) ∷ []
@@ -41,8 +49,7 @@ turns a d = map (λ k. (k + 1) * a.period) (range_with_len 0 (d / a.period))
 
 -- the releases of the tasks of smaller rank, task by task, then d
 unfoldable pub fp_times : ℕ → ℕ → List Charged → List ℕ
-fp_times rank d [] = d ∷ []
-fp_times rank d (a ∷ cs) = cond (nat_lt a.rank rank) (turns a d) [] ++ fp_times rank d cs
+fp_times rank d cs = listed (λ a. cond (nat_lt a.rank rank) (turns a d) []) cs d
 
 abbrev pub fp_group : List Charged → Charged → List (ℕ × ℕ)
 fp_group cs c = map (λ t. (t, c.cycles + above c.rank cs t)) (fp_times c.rank c.deadline cs)

@@ -21,6 +21,7 @@ ghost use Rattle.demand.specs.Sizes.{edf_length, group_any, group_in, Early, ear
 ghost use Rattle.supply.specs.Laws.{longest_window};
 ghost use Rattle.demand.specs.Tests;
 
+use crate::listing::nth_listed;
 use crate::policy::Policy;
 use crate::set::TaskSet;
 use crate::task::Task;
@@ -73,16 +74,6 @@ pub fn hyperperiod(tasks: &[Task]) -> Option<u32>
 }
 
 impl Task {
-    // When a job is due that is among the jobs of a window.
-    fn due(&self, job: u32, window: u32) -> Option<u32>
-        ensures { MatchOption result (jobs self.now.deadline self.now.period window ≤ job) (λ t. (job < jobs self.now.deadline self.now.period window) × (t ≡ self.now.deadline + job * self.now.period) × (t ≤ window)) }
-    {
-        if job >= self.jobs(window) {
-            return None;
-        }
-        Some(self.deadline + job * self.period)
-    }
-
     // The cycles of the jobs that arrive and are due within a window.
     fn due_cycles(&self, drive: &Drive, window: u32) -> u64
         requires { window ≤ longest_span }
@@ -99,15 +90,7 @@ pub fn listed_time(tasks: &[Task], end: u32, group: u32) -> Option<u32>
     ensures exactly { (top t : ℕ) → Memᴰ t (edf_times (charges top tasks.now) end) ↔ Deadline (charges top tasks.now) end t }
     ensures early { IfSome result (λ t. t ≤ end) }
 {
-    let mut left = group;
-    'deadlines: for task in tasks {
-        let count = task.jobs(end);
-        if left < count {
-            return task.due(left, end);
-        }
-        left -= count;
-    }
-    if left == 0 { Some(end) } else { None }
+    nth_listed(tasks, |task| Some(task.dues()), end, group)
 }
 
 // The cycles of all jobs that arrive and are due within a window.

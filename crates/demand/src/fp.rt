@@ -14,9 +14,11 @@ ghost use mathlib.Core.List.{Memᴰ};
 ghost use Rattle.demand.specs.Sizes.{group_any, fp_group_length, fp_length, charges_early, group_in, fp_some, Early, early_none, early_map};
 ghost use Rattle.supply.specs.Laws.{longest_window};
 
+use crate::listing::nth_listed;
 use crate::policy::Policy;
 use crate::set::TaskSet;
 use crate::task::Task;
+use crate::times::Times;
 use processor::drive::Drive;
 
 // Fixed priority: of the tasks that wait, the one of the smallest rank runs.
@@ -24,14 +26,14 @@ use processor::drive::Drive;
 pub struct Fp;
 
 impl Task {
-    // The end of a period, counted from 0, that comes no later than a window's end.
-    fn turn(&self, number: u32, window: u32) -> Option<u32>
-        ensures { MatchOption result (window / self.now.period ≤ number) (λ t. (number < window / self.now.period) × (t ≡ (number + 1) * self.now.period) × (t ≤ window)) }
+    // The ends of the periods from the start of a window on.
+    fn turns(&self) -> Times
+        ensures { (result.first ≡ self.now.period) × (result.step ≡ self.now.period) }
     {
-        if number >= window / self.period {
-            return None;
+        Times {
+            first: self.period,
+            step: self.period,
         }
-        Some((number + 1) * self.period)
     }
 
     // The cycles that the task takes within a window from those of a rank, where its own is smaller.
@@ -53,17 +55,16 @@ fn listed_time(tasks: &[Task], task: &Task, index: u32) -> Option<u32>
     ensures place { (top : ℕ) → result ≡ slice_get (fp_times task.now.rank task.now.deadline (charges top tasks.now)) index }
     ensures early { IfSome result (λ t. t ≤ task.now.deadline) }
 {
-    let mut left = index;
-    'releases: for other in tasks {
-        if other.rank < task.rank {
-            let count = task.deadline / other.period;
-            if left < count {
-                return other.turn(left, task.deadline);
-            }
-            left -= count;
-        }
-    }
-    if left == 0 { Some(task.deadline) } else { None }
+    nth_listed(
+        tasks,
+        |other| if other.rank < task.rank {
+            Some(other.turns())
+        } else {
+            None
+        },
+        task.deadline,
+        index,
+    )
 }
 
 // The cycles of a job, and of all jobs above it that arrive within a window.

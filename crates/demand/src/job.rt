@@ -5,6 +5,7 @@ ghost use Rattle.demand.specs.Demand.{jobs, releases};
 ghost use Rattle.demand.specs.Limits.{most_charge};
 
 use crate::task::Task;
+use crate::times::Times;
 use processor::drive::Drive;
 
 impl Task {
@@ -16,15 +17,22 @@ impl Task {
         u64::from(self.cycles) + u64::from(self.fixed) * u64::from(drive.peak())
     }
 
+    // When the jobs from the start of a window on are due.
+    pub(crate) fn dues(&self) -> Times
+        ensures { (result.first ≡ self.now.deadline) × (result.step ≡ self.now.period) }
+    {
+        Times {
+            first: self.deadline,
+            step: self.period,
+        }
+    }
+
     // How many jobs arrive and are due within a window.
     pub fn jobs(&self, window: u32) -> u32
         ensures value { result ≡ jobs self.now.deadline self.now.period window }
         ensures bound { result ≤ window }
     {
-        if window < self.deadline {
-            return 0;
-        }
-        (window - self.deadline) / self.period + 1
+        self.dues().count(window)
     }
 
     // How many jobs arrive within a window.
