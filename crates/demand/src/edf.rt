@@ -4,6 +4,8 @@ ghost use Rattle.demand.specs.Charges.{charge, charges};
 ghost use Rattle.demand.specs.Demand.{demand, due_cycles, jobs, EdfFull};
 ghost use Rattle.demand.specs.Hyper.{gcd, lcm, hyper, periods, within_span, edf_span, Least};
 ghost use Rattle.demand.specs.Listings.{edf_groups, edf_times, Deadline, hyper_of, edf_group};
+ghost use Rattle.demand.specs.EdfLaws.{edf_decides, edf_narrower, edf_lighter, edf_bare, edf_timed, edf_few, edf_short, edf_filled, edf_early};
+ghost use Rattle.demand.specs.Fewer.{edf_empty};
 ghost use Rattle.std.specs.List.{slice_get, remove};
 ghost use mathlib.Core.List.{Memᴰ};
 ghost use Rattle.processor.specs.Drives.{peak};
@@ -112,55 +114,25 @@ impl Policy for Edf {
 
     ghost groups = { λ _ cs. edf_groups cs };
 
-    ghost exact = { λ p ts s w top Z laws.
-        let cs = charges top ts in
-        subst (λ gs. Passes Z gs ↔ EdfFull cs Z) (sym (groups_within top ts w))
-        (edf_test laws cs (charges_fit top ts) (hyper_of cs) (hyper_of_positive top ts) (hyper_of_shared top ts)) };
+    ghost exact = { λ _ ts _. edf_decides ts };
 
-    ghost narrower = { λ p ts i h w.
-        let part = hyper_part (periods ts) (remove (periods ts) i) (periods_positive ts) (member_removed (periods ts) i) in
-        let e : hyper (periods (remove ts i)) ≡ hyper (remove (periods ts) i) = ap hyper (map_removed (λ t. t.period) ts i) in
-        le-leb (hyper (periods (remove ts i))) longest_span (omega (arith, e, part, leb-true (hyper (periods ts)) longest_span w)) };
+    ghost narrower = { λ _. edf_narrower };
 
-    ghost lighter = { λ p ts i h top Z f. subst (λ cs. EdfFull cs Z) (sym (map_removed (Charges.charge top) ts i)) (edf_removed Z (charges top ts) i f) };
+    ghost lighter = { λ _. edf_lighter };
 
-    ghost bare = { unfold hyper in λ p. refl };
+    ghost bare = { λ _. edf_bare };
 
-    ghost idle = { λ p Z. edf_empty Z };
+    ghost idle = { λ _. edf_empty };
 
-    ghost timed = { λ p ts us e. ap (λ ns. nat_le (hyper ns) longest_span) (periods_times ts us e) };
+    ghost timed = { λ _. edf_timed };
 
-    ghost few = { λ p ts s w top.
-        let cs = charges top ts in
-        let e = ap length (groups_within top ts w) in
-        let l = length-map (edf_times cs (hyper_of cs)) (edf_group cs) in
-        let a = length-map ts (Charges.charge top) in
-        let n : length cs ≤ most_tasks = omega (arith, s.few) in
-        let m : length cs * hyper_of cs ≤ most_tasks * longest_span = mul-le-mul n (span_of top ts w) in
-        omega (arith, edf_length cs (charges_fit top ts) (hyper_of cs)) };
+    ghost few = { λ _ ts s w top. edf_few ts w top s };
 
-    ghost short = { λ p ts s w top g.
-        let cs = charges top ts in
-        subst (λ gs. length (slice_index_or gs g []) < 4294967296) (sym (groups_within top ts w))
-        (group_any (λ G. length G < 4294967296) (edf_group cs) (edf_times cs (hyper_of cs)) (λ t i. omega arith) (omega arith) g) };
+    ghost short = { λ _ ts _. edf_short ts };
 
-    ghost filled = { λ p ts s w top g h.
-        let cs = charges top ts in
-        let e = groups_within top ts w in
-        subst (λ gs. 0 < length (slice_index_or gs g [])) (sym e)
-        (group_in (λ G. 0 < length G) (edf_group cs) (edf_times cs (hyper_of cs)) (λ t i. omega arith) g (subst (λ gs. g < length gs) e h)) };
+    ghost filled = { λ _ ts _. edf_filled ts };
 
-    ghost early = { λ p ts s w top g i h.
-        let cs = charges top ts in
-        let e = groups_within top ts w in
-        let fit = charges_fit top ts in
-        let early : (t : ℕ) → Memᴰ t (edf_times cs (hyper_of cs)) → Early longest_window (edf_group cs t) =
-        λ t j. λ k l.
-        let z : k ≡ 0 = omega arith in
-        let b = (deadline_within cs fit (hyper_of cs) (hyper_of_positive top ts) t (listed_deadline cs fit (hyper_of cs) t j)).1 in
-        rw z (omega (arith, b, span_of top ts w)) in
-        subst (λ gs. (Tests.point gs g i).0 ≤ longest_window) (sym e)
-        (group_any (Early longest_window) (edf_group cs) (edf_times cs (hyper_of cs)) early (early_none longest_window) g i (subst (λ gs. i < length (slice_index_or gs g [])) e h)) };
+    ghost early = { λ _ ts _. edf_early ts };
 
     fn spans(&self, set: &TaskSet) -> bool {
         hyperperiod(set.tasks()).is_some()

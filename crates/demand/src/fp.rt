@@ -3,6 +3,7 @@ ghost use Rattle.demand.specs.Limits.{longest_period, most_charge, most_tasks};
 ghost use Rattle.demand.specs.Charges.{charge, charges, Charged};
 ghost use Rattle.demand.specs.Demand.{above, taken_cycles, FpFull};
 ghost use Rattle.demand.specs.Listings.{fp_groups, fp_times, fp_group};
+ghost use Rattle.demand.specs.FpLaws.{fp_decides, fp_lighter, fp_few, fp_short, fp_filled, fp_early};
 ghost use Rattle.std.specs.List.{slice_get};
 ghost use Rattle.processor.specs.Drives.{peak};
 ghost use Rattle.std.proofs.Common.{sym, subst, arith, mul-le-mul, rules};
@@ -87,46 +88,25 @@ impl Policy for Fp {
 
     ghost groups = { λ _ cs. fp_groups cs };
 
-    ghost exact = { λ p ts s w top Z laws. fp_test laws (charges top ts) (charges_fit top ts) };
+    ghost exact = { λ _ ts s _. fp_decides ts s };
 
     ghost narrower = { Prim.search rules };
 
-    ghost lighter = { λ p ts i h top Z f. subst (λ cs. FpFull cs Z) (sym (map_removed (charge top) ts i)) (fp_removed Z (charges top ts) i f) };
+    ghost lighter = { λ _. fp_lighter };
 
     ghost bare = { Prim.search rules };
 
-    ghost idle = { λ p Z. fp_empty Z };
+    ghost idle = { λ _. fp_empty };
 
     ghost timed = { Prim.search rules };
 
-    ghost few = { λ p ts s w top.
-        let a = length-map ts (charge top) in
-        let b = length-map (charges top ts) (fp_group (charges top ts)) in
-        omega (arith, s.few) };
+    ghost few = { λ _ ts s _. fp_few ts s };
 
-    ghost short = { λ p ts s w top g.
-        let cs = charges top ts in
-        let a = length-map ts (charge top) in
-        let n : length cs ≤ most_tasks = omega (arith, s.few) in
-        let below : (c : Charged) → Memᴰ c cs → length (fp_group cs c) < 4294967296 =
-        λ c i.
-        let m : length cs * c.deadline ≤ most_tasks * longest_period = mul-le-mul n (charges_early top ts c i) in
-        omega (arith, fp_group_length cs c, fp_length c.rank c.deadline cs) in
-        group_any (λ G. length G < 4294967296) (fp_group cs) cs below (omega arith) g };
+    ghost short = { λ _ ts s _. fp_short ts s };
 
-    ghost filled = { λ p ts s w top g h.
-        let cs = charges top ts in
-        let some : (c : Charged) → Memᴰ c cs → 0 < length (fp_group cs c) =
-        λ c i.
-        omega (arith, fp_group_length cs c, fp_some c.rank c.deadline cs) in
-        group_in (λ G. 0 < length G) (fp_group cs) cs some g h };
+    ghost filled = { λ _ ts s _. fp_filled ts s };
 
-    ghost early = { λ p ts s w top g i h.
-        let cs = charges top ts in
-        let early : (c : Charged) → Memᴰ c cs → Early longest_window (fp_group cs c) =
-        λ c j. early_map longest_window (λ t. c.cycles + above c.rank cs t) (fp_times c.rank c.deadline cs)
-        (λ t k. omega (arith, (turns_within c.rank c.deadline (charges_fit top ts c j).deadline cs (charges_fit top ts) t k).1, charges_early top ts c j)) in
-        group_any (Early longest_window) (fp_group cs) cs early (early_none longest_window) g i h };
+    ghost early = { λ _ ts s _. fp_early ts s };
 
     fn spans(&self, _set: &TaskSet) -> bool {
         true

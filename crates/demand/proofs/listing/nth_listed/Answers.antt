@@ -10,9 +10,9 @@ returns-then-left-count-clause-place g c = λ lists h.
     let t = c.in-Some.times in
     let x = c.task-item.result in
     let called : FnReturnsAt g.F.Fn c.args.times x (Some t) = record { shown = _; shows = refl; says = record { met = c.in-Some.ensures } } in
-    ap Some c.nth.ensures
-    ∙ sym (turn_here lists c.args.tasks.now c.tasks.task-index c.args.end c.tasks.left x (omega arith) c.task-item.is t.first t.step (h x (Some t) called) (omega (arith, c.count-count.ensures.value)))
-    ∙ c.tasks.invariant lists h
+    rw c.nth.ensures
+    (sym (turn_here lists c.args.tasks.now c.tasks.task-index c.args.end c.tasks.left x (omega arith) c.task-item.is t.first t.step (h x (Some t) called) (omega (arith, c.count-count.ensures.value)))
+    ∙ c.tasks.invariant lists h)
 
 pub returns-then-left-count-clause-early : goal.returns-then-left-count-clause-early
 returns-then-left-count-clause-early g c =
