@@ -1,19 +1,13 @@
-ghost use Rattle.std.specs.Prelude.{◌≡◌, ℕ, ◌+◌, ◌*◌, ◌/◌, ◌<◌, ◌≤◌, true, length, IfSome, MatchOption};
+ghost use Rattle.std.specs.Prelude.{◌≡◌, ℕ, ◌+◌, ◌*◌, ◌≤◌, true, length, IfSome};
 ghost use Rattle.demand.specs.Limits.{longest_period, most_charge, most_tasks};
-ghost use Rattle.demand.specs.Charges.{charge, charges, Charged};
+ghost use Rattle.demand.specs.Charges.{charge, charges};
 ghost use Rattle.demand.specs.Demand.{above, taken_cycles, FpFull};
-ghost use Rattle.demand.specs.Listings.{fp_groups, fp_times, fp_group};
+ghost use Rattle.demand.specs.Listings.{fp_groups, fp_times};
 ghost use Rattle.demand.specs.FpLaws.{fp_decides, fp_lighter, fp_few, fp_short, fp_filled, fp_early};
 ghost use Rattle.std.specs.List.{slice_get};
 ghost use Rattle.processor.specs.Drives.{peak};
-ghost use Rattle.std.proofs.Common.{sym, subst, arith, mul-le-mul, rules};
-ghost use Rattle.std.proofs.lemmas.List.{length-map};
-ghost use Rattle.demand.specs.Points.{charges_fit};
-ghost use Rattle.demand.specs.ListingsLemmas.{fp_test, turns_within};
-ghost use Rattle.demand.specs.Fewer.{map_removed, fp_removed, fp_empty};
-ghost use mathlib.Core.List.{Memᴰ};
-ghost use Rattle.demand.specs.Sizes.{group_any, fp_group_length, fp_length, charges_early, group_in, fp_some, Early, early_none, early_map};
-ghost use Rattle.supply.specs.Laws.{longest_window};
+ghost use Rattle.std.proofs.Common.{rules};
+ghost use Rattle.demand.specs.Fewer.{fp_empty};
 
 use crate::listing::nth_listed;
 use crate::policy::Policy;

@@ -1,4 +1,4 @@
-ghost use Rattle.std.specs.Prelude.{◌≡◌, ◌+◌, ◌*◌, ◌≤◌};
+ghost use Rattle.std.specs.Prelude.{◌≡◌, ◌≤◌};
 ghost use Rattle.processor.specs.Drives.{peak};
 ghost use Rattle.demand.specs.Charges.{charge};
 ghost use Rattle.demand.specs.Demand.{jobs, releases};

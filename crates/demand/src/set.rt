@@ -1,4 +1,4 @@
-ghost use Rattle.std.specs.Prelude.{◌≡◌, ◌+◌, ◌-◌, ◌<◌, ◌≤◌, true, ltb, [], ◌∷◌, ◌++◌, map, length, take, set, is_some, is_ok, IfOk, if◌then◌else◌, Ok, Err, vec_len, vec_capacity, MatchOption, MatchResult, nat_lt, slice_index_or, slice_set};
+ghost use Rattle.std.specs.Prelude.{◌≡◌, ◌-◌, ◌<◌, ◌≤◌, ltb, [], ◌∷◌, ◌++◌, map, length, take, is_some, is_ok, IfOk, if◌then◌else◌, Ok, Err, MatchOption, MatchResult, nat_lt, slice_index_or, slice_set};
 ghost use Rattle.std.specs.List.{remove};
 ghost use Rattle.processor.specs.declared.refusal.Refusal.TheVariants.{TaskFigure, RankTaken, PlanFull};
 ghost use Rattle.demand.specs.Limits.{most_tasks};
