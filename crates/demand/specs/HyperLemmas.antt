@@ -1,5 +1,5 @@
 -- The hyperperiod is the least positive common multiple, and how the code comes to it.
-use Rattle.std.specs.Prelude.{◌≡◌, ℕ, zero, suc, ◌+◌, ◌-◌, ◌*◌, ◌/◌, ◌%◌, ◌<◌, ◌≤◌, ◌⊎◌, List, [], ◌∷◌, ◌++◌, refl}
+use Rattle.std.specs.Prelude.{◌≡◌, ℕ, zero, suc, ◌+◌, ◌-◌, ◌*◌, ◌/◌, ◌%◌, ◌<◌, ◌≤◌, ◌⊎◌, List, [], ◌∷◌, refl}
 use Rattle.std.proofs.Common.{sym, ◌∙◌, ap, ap₂, subst, inl, inr, arith, div-add-mod', mod-lt, mul-div_cancel, mul_assoc, mul_comm, mul-le-mul}
 use mathlib.Core.List.Memᴰ
 use mathlib.Core.List.{Memᴰ}
@@ -28,6 +28,9 @@ unfolding gcd_in
 gcd_positive zero a b h = h
 gcd_positive (suc n) a zero h = h
 gcd_positive (suc n) a (suc b) h = gcd_positive n (suc b) (a % suc b) (omega arith)
+
+multiple_trans : (a b c : ℕ) → Multiple a b → Multiple b c → Multiple a c
+multiple_trans a b c (y, s) (x, e) = (x * y, e ∙ ap (λ u. x * u) s ∙ sym (mul_assoc x y a))
 
 pub lcm_laws : (a b : ℕ) → 1 ≤ a → 1 ≤ b → Multiple a (lcm a b) × Multiple b (lcm a b) × (1 ≤ lcm a b)
 unfolding lcm
@@ -121,12 +124,9 @@ hyper_common (n ∷ ns) f d i = way (Memᴰ.cases_cons i) (hyper_common ns (λ m
     l : Multiple n (lcm n (hyper ns)) × Multiple (hyper ns) (lcm n (hyper ns)) × (1 ≤ lcm n (hyper ns))
     l = lcm_laws n (hyper ns) (f n (Memᴰ.head refl)) (hyper_positive ns (λ m j. f m (Memᴰ.tail j)))
 
-    through : Multiple (hyper ns) (lcm n (hyper ns)) → Multiple d (hyper ns) → Multiple d (lcm n (hyper ns))
-    through (x, e) (y, s) = (x * y, e ∙ ap (λ u. x * u) s ∙ sym (mul_assoc x y d))
-
     way : (d ≡ n) ⊎ Memᴰ d ns → (Memᴰ d ns → Multiple d (hyper ns)) → Multiple d (lcm n (hyper ns))
     way (inl e) next = subst (λ y. Multiple y (lcm n (hyper ns))) (sym e) l.0
-    way (inr j) next = through l.1 (next j)
+    way (inr j) next = multiple_trans d (hyper ns) (lcm n (hyper ns)) (next j) l.1
 
 pub hyper_least : (ns : List ℕ) → Positive ns → (h : ℕ) → Common ns h → Multiple (hyper ns) h
 unfolding hyper
@@ -148,38 +148,47 @@ hyper_is_least ns f =
       least = λ k b m. multiple_le (hyper ns) k b (hyper_least ns f k m);
     }
 
--- ---- from the front on, as the loop goes
+-- ---- from the front on, as the code goes
 
 -- there is one least common multiple
 pub least_one : (ns : List ℕ) (a b : ℕ) → Least ns a → Least ns b → a ≡ b
 least_one ns a b x y = omega (arith, x.least b y.positive y.common, y.least a x.positive x.common)
 
--- one number more
-pub least_more : (ns : List ℕ) (h n : ℕ) → Least ns h → 1 ≤ n → ((k : ℕ) → Common ns k → Multiple h k) → Least (ns ++ n ∷ []) (lcm h n)
-least_more ns h n x b divides =
-    record {
-      positive = l.2;
-      common = λ m i. pick m (Memᴰ.append_cases ns i);
-      least = λ k p q. multiple_le (lcm h n) k p (lcm_least h n k x.positive b (divides k (λ m i. q m (Memᴰ.append_left (n ∷ []) i))) (q n (Memᴰ.append_right ns (Memᴰ.head refl))));
-    }
-  where
-    l : Multiple h (lcm h n) × Multiple n (lcm h n) × (1 ≤ lcm h n)
-    l = lcm_laws h n x.positive b
+lcm_assoc : (a b c : ℕ) → 1 ≤ a → 1 ≤ b → 1 ≤ c → lcm (lcm a b) c ≡ lcm a (lcm b c)
+lcm_assoc a b c ha hb hc =
+    let p = lcm_laws a b ha hb in
+    let q = lcm_laws b c hb hc in
+    let x = lcm_laws (lcm a b) c p.2 hc in
+    let y = lcm_laws a (lcm b c) ha q.2 in
+    let to = lcm_least (lcm a b) c (lcm a (lcm b c)) p.2 hc
+    (lcm_least a b (lcm a (lcm b c)) ha hb y.0 (multiple_trans b (lcm b c) (lcm a (lcm b c)) q.0 y.1))
+    (multiple_trans c (lcm b c) (lcm a (lcm b c)) q.1 y.1) in
+    let back = lcm_least a (lcm b c) (lcm (lcm a b) c) ha q.2
+    (multiple_trans a (lcm a b) (lcm (lcm a b) c) p.0 x.0)
+    (lcm_least b c (lcm (lcm a b) c) hb hc (multiple_trans b (lcm a b) (lcm (lcm a b) c) p.1 x.0) x.1) in
+    omega (arith, multiple_le (lcm (lcm a b) c) (lcm a (lcm b c)) y.2 to, multiple_le (lcm a (lcm b c)) (lcm (lcm a b) c) x.2 back)
 
-    through : (m : ℕ) → Multiple h (lcm h n) → Multiple m h → Multiple m (lcm h n)
-    through m (x, e) (y, s) = (x * y, e ∙ ap (λ u. x * u) s ∙ sym (mul_assoc x y m))
+lcm_one : (a : ℕ) → 1 ≤ a → (lcm a 1 ≡ a) × (lcm 1 a ≡ a)
+lcm_one a h =
+    let own : Multiple a a = (1, omega arith) in
+    let all : Multiple 1 a = (a, omega arith) in
+    let l = lcm_laws a 1 h (omega arith) in
+    let r = lcm_laws 1 a (omega arith) h in (
+      omega (arith, multiple_le a (lcm a 1) l.2 l.0, multiple_le (lcm a 1) a h (lcm_least a 1 a h (omega arith) own all)),
+      omega (arith, multiple_le a (lcm 1 a) r.2 r.1, multiple_le (lcm 1 a) a h (lcm_least 1 a a (omega arith) h all own)),
+    )
 
-    pick : (m : ℕ) → Memᴰ m ns ⊎ Memᴰ m (n ∷ []) → Multiple m (lcm h n)
-    pick m (inl i) = through m l.0 (x.common m i)
-    pick m (inr i) = subst (λ y. Multiple y (lcm h n)) (sym (Memᴰ.eq_of_singleton i)) l.1
+-- the numbers taken in one by one, from h on
+pub hyper_from : (h n : ℕ) (ns : List ℕ) → 1 ≤ h → Positive (n ∷ ns) → lcm (lcm h n) (hyper ns) ≡ lcm h (hyper (n ∷ ns))
+unfolding hyper
+hyper_from h n ns b f = lcm_assoc h n (hyper ns) b (f n (Memᴰ.head refl)) (hyper_positive ns (λ m i. f m (Memᴰ.tail i)))
 
-pub hyper_push : (ns : List ℕ) (n : ℕ) → Positive (ns ++ n ∷ []) → hyper (ns ++ n ∷ []) ≡ lcm (hyper ns) n
-hyper_push ns n f =
-    least_one (ns ++ n ∷ []) (hyper (ns ++ n ∷ [])) (lcm (hyper ns) n) (hyper_is_least (ns ++ n ∷ []) f)
-    (least_more ns (hyper ns) n (hyper_is_least ns front) (f n (Memᴰ.append_right ns (Memᴰ.head refl))) (λ k m. hyper_least ns front k m))
-  where
-    front : Positive ns
-    front m i = f m (Memᴰ.append_left (n ∷ []) i)
+pub hyper_none : (h : ℕ) → 1 ≤ h → lcm h (hyper []) ≡ h
+unfolding hyper
+hyper_none h b = (lcm_one h b).0
+
+pub hyper_all : (ns : List ℕ) → Positive ns → lcm 1 (hyper ns) ≡ hyper ns
+hyper_all ns f = (lcm_one (hyper ns) (hyper_positive ns f)).1
 
 -- fewer numbers, no longer hyperperiod
 pub hyper_part : (ns ms : List ℕ) → Positive ns → ((n : ℕ) → Memᴰ n ms → Memᴰ n ns) → hyper ms ≤ hyper ns

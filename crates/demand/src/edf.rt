@@ -37,32 +37,29 @@ fn common_divisor(a: u32, b: u32) -> u32
     big
 }
 
-// The least common multiple of a period and the periods before it, unless it is longer than the span.
-fn common_multiple(so_far: u32, period: u32) -> Option<u32>
-    requires { 1 ≤ so_far }
-    ensures { result ≡ within_span (lcm so_far period) }
-{
-    let divisor = common_divisor(so_far, period);
-    let multiple = u64::from(so_far / divisor) * u64::from(period);
-    if multiple > u64::from(LONGEST_SPAN) {
-        return None;
-    }
-    Some(multiple as u32)
-}
-
 // The least common multiple of all periods, 1 without tasks.
 pub fn hyperperiod(tasks: &[Task]) -> Option<u32>
     ensures value { result ≡ within_span (hyper (periods tasks.now)) }
     ensures least { Least (periods tasks.now) (hyper (periods tasks.now)) }
 {
-    let mut hyper = 1;
-    'periods: for task in tasks {
-        hyper = common_multiple(hyper, task.period)?;
-    }
-    Some(hyper)
+    tasks
+        .iter()
+        .try_fold(1, |hyper, task| task.common_multiple(hyper))
 }
 
 impl Task {
+    // The least common multiple of the period and a number, unless it is longer than the span.
+    fn common_multiple(&self, so_far: u32) -> Option<u32>
+        ensures { result ≡ within_span (lcm so_far self.now.period) }
+    {
+        let divisor = common_divisor(so_far, self.period);
+        let multiple = u64::from(so_far / divisor) * u64::from(self.period);
+        if multiple > u64::from(LONGEST_SPAN) {
+            return None;
+        }
+        Some(multiple as u32)
+    }
+
     // The cycles of the jobs that arrive and are due within a window.
     fn due_cycles(&self, drive: &Drive, window: u32) -> u64
         requires { window ≤ longest_span }
