@@ -1,7 +1,7 @@
 -- What stands at a place of a listing, and how the code comes to it.
 use Rattle.std.proofs.Common.{◌≡◌, ℕ, cond, nat_lt, zero, suc, ◌+◌, ◌-◌, ◌*◌, ◌/◌, ◌<◌, ◌≤◌, List, [], ◌∷◌, ◌++◌, map, length, get_or, drop, Some, None, Option, sym, refl, ap, ◌∙◌, arith, le-ltb, lt-ltb, MatchOption}
 use Rattle.std.specs.List.{range_with_len, slice_get}
-use Rattle.std.proofs.lemmas.List.{drop_more, at_drop_all}
+use Rattle.std.proofs.lemmas.List.{drop_more}
 use Rattle.std.proofs.lemmas.Option.{slice_get-get_or, slice_get_past}
 use Rattle.std.proofs.lemmas.List.FromFn.{length-map-range_with_len, get_or-map-range_with_len}
 use Rattle.demand.specs.declared.task.Task.{Task}
@@ -113,9 +113,3 @@ module _ {X : Type 0} (lists : X → List ℕ) (xs : List X) (i h k : ℕ) where
 
       pub turn_after : jobs first step h ≤ k → at_turn ≡ at_next (k - jobs first step h)
       turn_after b = turn (terms first step h) g ∙ listed_after (λ n. first + n * step) (jobs first step h) (listed lists (drop (i + 1) xs) h) k b
-
-  pub turn_last : length xs ≤ i → k ≡ 0 → at_turn ≡ Some h
-  turn_last l e = at_drop_all (λ us. slice_get (listed lists us h) k) xs i l ∙ ap (slice_get (h ∷ [])) e
-
-  pub turn_past : length xs ≤ i → (k ≡ 0 → ⊥) → at_turn ≡ None
-  turn_past l n = at_drop_all (λ us. slice_get (listed lists us h) k) xs i l ∙ slice_get_past (h ∷ []) k (omega arith)

@@ -1,14 +1,12 @@
 -- Sets of tasks: whose ranks differ, and what an edit leaves of that.
-use Rattle.std.proofs.Common.{◌≡◌, ℕ, zero, suc, ◌+◌, ◌*◌, ◌<◌, ◌≤◌, Bool, true, false, ◌||◌, eqb, ◌⊎◌, List, [], ◌∷◌, ◌++◌, map, length, get_or, take, set, sym, refl, ap, ◌∙◌, subst, inl, inr, arith, length-take, get_or-take, eq-eqb}
+use Rattle.std.proofs.Common.{◌≡◌, ℕ, zero, suc, ◌+◌, ◌<◌, ◌≤◌, Bool, true, false, ◌||◌, eqb, ◌⊎◌, List, [], ◌∷◌, ◌++◌, map, length, get_or, take, set, sym, refl, ap, ◌∙◌, subst, inl, inr, arith, length-take, get_or-take, eq-eqb}
 use lib.ListN.{length-map}
 use Rattle.std.specs.List.{remove}
 use Rattle.std.proofs.lemmas.Bool.{cases_lt}
 use Rattle.std.proofs.lemmas.List.{take-map, get_or_append_left, get_or_push, length_push, map_push}
 use Rattle.std.proofs.lemmas.List.Edits.{length-remove, get_or-remove_below, get_or-remove_above}
 use Rattle.demand.specs.declared.task.Task.{Task}
-use Rattle.demand.specs.declared.task.Figures.{Figures}
-use Rattle.demand.specs.Figures.{figures_of, with_work, no_figures, times_of}
-use Rattle.demand.specs.Charges.{charges}
+use Rattle.demand.specs.Figures.{figures_of, with_work, no_figures}
 use Rattle.demand.specs.Fewer.{map_removed}
 use Rattle.demand.specs.Ranks.{Distinct, ranks, has_rank}
 
@@ -97,34 +95,3 @@ set_beyond [] zero y h = refl
 set_beyond [] (suc i) y h = refl
 set_beyond (x ∷ xs) zero y h = absurd (omega arith)
 set_beyond (x ∷ xs) (suc i) y h = ap (λ zs. x ∷ zs) (set_beyond xs i y (omega arith))
-
--- ---- what reads only the figures
-
-pub by_figures : {X : Type 0} (f : Figures → X) (ts us : List Task) → map figures_of ts ≡ map figures_of us
-    → map (λ t. f (figures_of t)) ts ≡ map (λ t. f (figures_of t)) us
-by_figures f ts us e = sym (through ts) ∙ ap (map f) e ∙ through us
-  where
-    through : (vs : List Task) → map f (map figures_of vs) ≡ map (λ t. f (figures_of t)) vs
-    through [] = refl
-    through (v ∷ vs) = ap (λ xs. f (figures_of v) ∷ xs) (through vs)
-
-pub charges_figures : (top : ℕ) (ts us : List Task) → map figures_of ts ≡ map figures_of us → charges top ts ≡ charges top us
-charges_figures top ts us e =
-    by_figures (λ f. record { rank = f.rank; cycles = f.cycles + f.fixed * top; period = f.period; deadline = f.deadline }) ts us e
-
-abbrev times : Figures → ℕ × ℕ × ℕ
-times f = (f.rank, f.period, f.deadline)
-
--- other work leaves ranks, periods and deadlines
-pub revised_times : (ts us : List Task) (i n m : ℕ) → map figures_of us ≡ set (map figures_of ts) i (with_work n m (get_or (map figures_of ts) i no_figures))
-    → map times_of us ≡ map times_of ts
-revised_times ts us i n m e = sym (through us) ∙ ap (map times) e ∙ same (map figures_of ts) i ∙ through ts
-  where
-    through : (vs : List Task) → map times (map figures_of vs) ≡ map times_of vs
-    through [] = refl
-    through (v ∷ vs) = ap (λ xs. times_of v ∷ xs) (through vs)
-
-    same : (fs : List Figures) (k : ℕ) → map times (set fs k (with_work n m (get_or fs k no_figures))) ≡ map times fs
-    same [] k = refl
-    same (f ∷ fs) zero = refl
-    same (f ∷ fs) (suc k) = ap (λ xs. times f ∷ xs) (same fs k)

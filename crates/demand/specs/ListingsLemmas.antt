@@ -1,57 +1,63 @@
 -- Which times the policies list, and that the test at them decides.
-use Rattle.std.specs.Prelude.{◌≡◌, ℕ, zero, suc, ◌+◌, ◌*◌, ◌/◌, ◌<◌, ◌≤◌, Bool, true, false, cond, ltb, ◌⊎◌, ◌↔◌, List, [], ◌∷◌, ◌++◌, map, nat_lt, refl}
-use Rattle.std.proofs.Common.{sym, subst, inl, inr, arith, mul-le-mul_right, div-mul-le_self, le-div_iff_mul-le, lt-ltb}
+use Rattle.std.specs.Prelude.{◌≡◌, ℕ, zero, suc, ◌+◌, ◌*◌, ◌/◌, ◌≤◌, Bool, true, false, cond, ◌⊎◌, ◌↔◌, List, [], ◌∷◌, ◌++◌, map, nat_lt, refl}
+use Rattle.std.proofs.Common.{subst, inl, inr, arith, mul-le-mul_right, div-mul-le_self, le-div_iff_mul-le, lt-ltb}
 use mathlib.Core.List.Memᴰ
 use mathlib.Core.List.{Memᴰ}
 use Rattle.supply.specs.Laws.{Lawful}
 use Rattle.demand.specs.Charges.{Charged}
 use Rattle.demand.specs.Demand.{demand, above, EdfFull, FpFull}
 use Rattle.demand.specs.Tests.{Passes}
-use Rattle.demand.specs.Listings.{dues, edf_times, edf_group, Deadline, due, end, turns, fp_times, fp_group, fp_groups}
-use Rattle.demand.specs.Points.{AllFit, Shared, Release, at, last, jobs_of, first, rest}
+use Rattle.demand.specs.Listings.{listed, dues, edf_times, edf_group, Deadline, due, end, turns, fp_times, fp_group, fp_groups}
+use Rattle.demand.specs.Points.{AllFit, Shared, Release, at, last, jobs_of}
 use Rattle.demand.specs.Deadlines.{edf_exact, jobs_bound, bound_jobs}
 use Rattle.demand.specs.Priorities.{fp_exact}
 use Rattle.demand.specs.Passes.{Held, passes_each, each_passes, held_at, at_held, member_listed, listed_member}
+
+-- ---- what each lists, then the end
+
+module _ {X : Type 0} (lists : X → List ℕ) (h p : ℕ) where
+  end_listed : (xs : List X) → p ≡ h → Memᴰ p (listed lists xs h)
+  end_listed [] e = Memᴰ.head e
+  end_listed (x ∷ xs) e = Memᴰ.append_right (lists x) (end_listed xs e)
+
+  own_listed : (xs : List X) (x : X) → Memᴰ x xs → Memᴰ p (lists x) → Memᴰ p (listed lists xs h)
+  own_listed [] x i m = absurd (Memᴰ.not-nil i)
+  own_listed (y ∷ xs) x i m = way (Memᴰ.cases_cons i) (λ j. own_listed xs x j m)
+    where
+      way : (x ≡ y) ⊎ Memᴰ x xs → (Memᴰ x xs → Memᴰ p (listed lists xs h)) → Memᴰ p (lists y ++ listed lists xs h)
+      way (inl e) next = Memᴰ.append_left (listed lists xs h) (subst (λ z. Memᴰ p (lists z)) e m)
+      way (inr j) next = Memᴰ.append_right (lists y) (next j)
+
+  listed_own : (xs : List X) → Memᴰ p (listed lists xs h) → (p ≡ h) ⊎ ((x : X) × Memᴰ x xs × Memᴰ p (lists x))
+  listed_own [] i = inl (Memᴰ.eq_of_singleton i)
+  listed_own (y ∷ xs) i = way (Memᴰ.append_cases (lists y) i) (listed_own xs)
+    where
+      further : (p ≡ h) ⊎ ((x : X) × Memᴰ x xs × Memᴰ p (lists x)) → (p ≡ h) ⊎ ((x : X) × Memᴰ x (y ∷ xs) × Memᴰ p (lists x))
+      further (inl e) = inl e
+      further (inr (x, j, m)) = inr (x, Memᴰ.tail j, m)
+
+      way : Memᴰ p (lists y) ⊎ Memᴰ p (listed lists xs h) → (Memᴰ p (listed lists xs h) → (p ≡ h) ⊎ ((x : X) × Memᴰ x xs × Memᴰ p (lists x)))
+          → (p ≡ h) ⊎ ((x : X) × Memᴰ x (y ∷ xs) × Memᴰ p (lists x))
+      way (inl m) next = inr (y, Memᴰ.head refl, m)
+      way (inr j) next = further (next j)
 
 -- ---- earliest deadline first
 
 pub listed_deadline : (cs : List Charged) → AllFit cs → (h p : ℕ) → Memᴰ p (edf_times cs h) → Deadline cs h p
 unfolding edf_times
-listed_deadline [] f h p i = end (Memᴰ.eq_of_singleton i)
-listed_deadline (c ∷ cs) f h p i = way (Memᴰ.append_cases (dues c h) i) (listed_deadline cs (rest f) h p)
+listed_deadline cs f h p i = way (listed_own (λ c. dues c h) h p cs i)
   where
-    further : Deadline cs h p → Deadline (c ∷ cs) h p
-    further (due d j k e b) = due d (Memᴰ.tail j) k e b
-    further (end e) = end e
-
-    own : (k : ℕ) × (k < jobs_of c h) × (p ≡ c.deadline + k * c.period) → Deadline (c ∷ cs) h p
-    own (k, b, e) = due c (Memᴰ.head refl) k e (omega (arith, e, jobs_bound c (first f) h k b))
-
-    way : Memᴰ p (dues c h) ⊎ Memᴰ p (edf_times cs h) → (Memᴰ p (edf_times cs h) → Deadline cs h p) → Deadline (c ∷ cs) h p
-    way (inl j) next = own (listed_member (λ k. c.deadline + k * c.period) (jobs_of c h) p j)
-    way (inr j) next = further (next j)
-
-end_listed : (cs : List Charged) (h p : ℕ) → p ≡ h → Memᴰ p (edf_times cs h)
-unfolding edf_times
-end_listed [] h p e = Memᴰ.head e
-end_listed (c ∷ cs) h p e = Memᴰ.append_right (dues c h) (end_listed cs h p e)
-
-due_listed : (cs : List Charged) → AllFit cs → (h p : ℕ) (c : Charged) → Memᴰ c cs → (k : ℕ) → p ≡ c.deadline + k * c.period → p ≤ h
-    → Memᴰ p (edf_times cs h)
-unfolding edf_times
-due_listed [] f h p c i k e b = absurd (Memᴰ.not-nil i)
-due_listed (d ∷ cs) f h p c i k e b = way (Memᴰ.cases_cons i) (λ j. due_listed cs (rest f) h p c j k e b)
-  where
-    way : (c ≡ d) ⊎ Memᴰ c cs → (Memᴰ c cs → Memᴰ p (edf_times cs h)) → Memᴰ p (dues d h ++ edf_times cs h)
-    way (inl g) next =
-        let s : p ≡ d.deadline + k * d.period = subst (λ x. p ≡ x.deadline + k * x.period) g e in
-        Memᴰ.append_left (edf_times cs h)
-        (member_listed (λ k. d.deadline + k * d.period) (jobs_of d h) p k (bound_jobs d (first f) h k (omega arith)) s)
-    way (inr j) next = Memᴰ.append_right (dues d h) (next j)
+    way : (p ≡ h) ⊎ ((c : Charged) × Memᴰ c cs × Memᴰ p (dues c h)) → Deadline cs h p
+    way (inl e) = end e
+    way (inr (c, j, m)) =
+        let (k, b, e) = listed_member (λ k. c.deadline + k * c.period) (jobs_of c h) p m in
+        due c j k e (omega (arith, e, jobs_bound c (f c j) h k b))
 
 pub deadline_listed : (cs : List Charged) → AllFit cs → (h p : ℕ) → Deadline cs h p → Memᴰ p (edf_times cs h)
-deadline_listed cs f h p (due c i k e b) = due_listed cs f h p c i k e b
-deadline_listed cs f h p (end e) = end_listed cs h p e
+unfolding edf_times
+deadline_listed cs f h p (due c i k e b) =
+    own_listed (λ c. dues c h) h p cs c i (member_listed (λ k. c.deadline + k * c.period) (jobs_of c h) p k (bound_jobs c (f c i) h k (omega arith)) e)
+deadline_listed cs f h p (end e) = end_listed (λ c. dues c h) h p cs e
 
 pub deadline_within : (cs : List Charged) → AllFit cs → (h : ℕ) → 1 ≤ h → (p : ℕ) → Deadline cs h p → (1 ≤ p) × (p ≤ h)
 deadline_within cs f h b p (due c i k e u) = (omega (arith, e, (f c i).deadline), u)
@@ -71,59 +77,39 @@ module _ {top : ℕ} {Z : ℕ → ℕ} (laws : Lawful top Z) (cs : List Charged)
 
 -- ---- fixed priority
 
+-- the releases of a task of smaller rank
+abbrev turns_above : ℕ → ℕ → Charged → List ℕ
+turns_above rank d a = cond (nat_lt a.rank rank) (turns a d) []
+
 pub turns_within : (rank d : ℕ) → 1 ≤ d → (cs : List Charged) → AllFit cs → (p : ℕ) → Memᴰ p (fp_times rank d cs) → (1 ≤ p) × (p ≤ d)
 unfolding fp_times
-turns_within rank d l [] f p i = let e : p ≡ d = Memᴰ.eq_of_singleton i in (omega arith, omega arith)
-turns_within rank d l (a ∷ cs) f p i = way (nat_lt a.rank rank) (turns_within rank d l cs (rest f) p) i
+turns_within rank d l cs f p i = way (listed_own (turns_above rank d) d p cs i)
   where
-    T : ℕ
-    T = a.period
+    own : (a : Charged) → Memᴰ a cs → Memᴰ p (turns a d) → (1 ≤ p) × (p ≤ d)
+    own a j m =
+        let (k, b, e) = listed_member (λ k. (k + 1) * a.period) (d / a.period) p m in
+        let u : (k + 1) * a.period ≤ d / a.period * a.period = mul-le-mul_right a.period (omega arith) in
+        (omega (arith, (f a j).period, e), omega (arith, e, u, div-mul-le_self d a.period))
 
-    positive : 1 ≤ T
-    positive = (first f).period
+    pick : (b : Bool) (a : Charged) → Memᴰ a cs → Memᴰ p (cond b (turns a d) []) → (1 ≤ p) × (p ≤ d)
+    pick true a j m = own a j m
+    pick false a j m = absurd (Memᴰ.not-nil m)
 
-    own : (k : ℕ) × (k < d / T) × (p ≡ (k + 1) * T) → (1 ≤ p) × (p ≤ d)
-    own (k, b, e) =
-        let u : (k + 1) * T ≤ d / T * T = mul-le-mul_right T (omega arith) in
-        (omega (arith, positive, e), omega (arith, e, u, div-mul-le_self d T))
-
-    pick : Memᴰ p (turns a d) ⊎ Memᴰ p (fp_times rank d cs) → (Memᴰ p (fp_times rank d cs) → (1 ≤ p) × (p ≤ d)) → (1 ≤ p) × (p ≤ d)
-    pick (inl j) next = own (listed_member (λ k. (k + 1) * T) (d / T) p j)
-    pick (inr j) next = next j
-
-    way : (b : Bool) → (Memᴰ p (fp_times rank d cs) → (1 ≤ p) × (p ≤ d)) → Memᴰ p (cond b (turns a d) [] ++ fp_times rank d cs) → (1 ≤ p) × (p ≤ d)
-    way true next j = pick (Memᴰ.append_cases (turns a d) j) next
-    way false next j = next j
-
-turn_listed : (rank d : ℕ) (cs : List Charged) → AllFit cs → (p : ℕ) (a : Charged) → Memᴰ a cs → a.rank < rank → (k : ℕ) → p ≡ k * a.period → 1 ≤ p → p ≤ d
-    → Memᴰ p (fp_times rank d cs)
-unfolding fp_times
-turn_listed rank d [] f p a i h k e b u = absurd (Memᴰ.not-nil i)
-turn_listed rank d (x ∷ cs) f p a i h k e b u =
-    way (Memᴰ.cases_cons i) (λ j. turn_listed rank d cs (rest f) p a j h k e b u)
-  where
-    turn : (k : ℕ) → p ≡ k * x.period → Memᴰ p (turns x d)
-    turn zero g = absurd (omega arith)
-    turn (suc k) g =
-        let few : suc k ≤ d / x.period = (le-div_iff_mul-le (first f).period).1 (omega arith) in
-        member_listed (λ k. (k + 1) * x.period) (d / x.period) p k few (omega arith)
-
-    way : (a ≡ x) ⊎ Memᴰ a cs → (Memᴰ a cs → Memᴰ p (fp_times rank d cs))
-        → Memᴰ p (cond (nat_lt x.rank rank) (turns x d) [] ++ fp_times rank d cs)
-    way (inl g) next =
-        let above_it : ltb x.rank rank ≡ true = lt-ltb x.rank rank (subst (λ y. y.rank < rank) g h) in
-        subst (λ t. Memᴰ p (cond t (turns x d) [] ++ fp_times rank d cs)) (sym above_it)
-        (Memᴰ.append_left (fp_times rank d cs) (turn k (subst (λ y. p ≡ k * y.period) g e)))
-    way (inr j) next = Memᴰ.append_right (cond (nat_lt x.rank rank) (turns x d) []) (next j)
-
-last_listed : (rank d : ℕ) (cs : List Charged) (p : ℕ) → p ≡ d → Memᴰ p (fp_times rank d cs)
-unfolding fp_times
-last_listed rank d [] p e = Memᴰ.head e
-last_listed rank d (a ∷ cs) p e = Memᴰ.append_right (cond (nat_lt a.rank rank) (turns a d) []) (last_listed rank d cs p e)
+    way : (p ≡ d) ⊎ ((a : Charged) × Memᴰ a cs × Memᴰ p (turns_above rank d a)) → (1 ≤ p) × (p ≤ d)
+    way (inl e) = (omega arith, omega arith)
+    way (inr (a, j, m)) = pick (nat_lt a.rank rank) a j m
 
 pub release_listed : (cs : List Charged) → AllFit cs → (c : Charged) (p : ℕ) → Release cs c p → Memᴰ p (fp_times c.rank c.deadline cs)
-release_listed cs f c p (at a i h k e b u) = turn_listed c.rank c.deadline cs f p a i h k e b u
-release_listed cs f c p (last e) = last_listed c.rank c.deadline cs p e
+unfolding fp_times
+release_listed cs f c p (at a i h k e b u) =
+    own_listed (turns_above c.rank c.deadline) c.deadline p cs a i (rw (lt-ltb a.rank c.rank h) (turn k e))
+  where
+    turn : (k : ℕ) → p ≡ k * a.period → Memᴰ p (turns a c.deadline)
+    turn zero g = absurd (omega arith)
+    turn (suc k) g =
+        let few : suc k ≤ c.deadline / a.period = (le-div_iff_mul-le (f a i).period).1 (omega arith) in
+        member_listed (λ k. (k + 1) * a.period) (c.deadline / a.period) p k few (omega arith)
+release_listed cs f c p (last e) = end_listed (turns_above c.rank c.deadline) c.deadline p cs e
 
 module _ {top : ℕ} {Z : ℕ → ℕ} (laws : Lawful top Z) (cs : List Charged) (fit : AllFit cs) where
   abbrev asked : Charged → ℕ → ℕ

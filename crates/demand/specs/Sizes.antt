@@ -1,5 +1,5 @@
 -- How many groups and points are listed, and how late they are.
-use Rattle.std.specs.Prelude.{◌≡◌, ℕ, zero, suc, ◌+◌, ◌*◌, ◌/◌, ◌<◌, ◌≤◌, Bool, true, false, cond, List, [], ◌∷◌, ◌++◌, map, length, get_or, nat_lt, slice_index_or, refl}
+use Rattle.std.specs.Prelude.{◌≡◌, ℕ, zero, suc, ◌+◌, ◌*◌, ◌/◌, ◌<◌, ◌≤◌, Bool, true, false, cond, List, [], ◌∷◌, map, length, get_or, nat_lt, slice_index_or, refl}
 use Rattle.std.proofs.Common.{subst, arith, div-le_self, length-append}
 use mathlib.Core.List.Memᴰ
 use mathlib.Core.List.{Memᴰ}
@@ -9,9 +9,9 @@ use Rattle.demand.specs.declared.task.Task.{Task}
 use Rattle.demand.specs.Limits.{longest_period}
 use Rattle.demand.specs.Charges.{Charged, charge, charges}
 use Rattle.demand.specs.Demand.{jobs, above}
-use Rattle.demand.specs.Listings.{dues, edf_times, turns, fp_times, fp_group}
+use Rattle.demand.specs.Listings.{listed, dues, edf_times, turns, fp_times, fp_group}
 use Rattle.demand.specs.Counts.{jobs_le}
-use Rattle.demand.specs.Points.{AllFit, first, rest}
+use Rattle.demand.specs.Points.{AllFit}
 
 -- what holds of the group of each thing holds of each group
 module _ {X : Type 0} (P : List (ℕ × ℕ) → Type 0) (g : X → List (ℕ × ℕ)) where
@@ -37,39 +37,39 @@ early_map w f [] h i l = absurd (omega arith)
 early_map w f (t ∷ ts) h zero l = h t (Memᴰ.head refl)
 early_map w f (t ∷ ts) h (suc i) l = early_map w f ts (λ u j. h u (Memᴰ.tail j)) i (omega arith)
 
--- ---- earliest deadline first
+-- ---- how many times are listed
+
+module _ {X : Type 0} (lists : X → List ℕ) (h : ℕ) where
+  length_listed : (m : ℕ) (xs : List X) → ((x : X) → Memᴰ x xs → length (lists x) ≤ m) → length (listed lists xs h) ≤ length xs * m + 1
+  length_listed m [] f = omega arith
+  length_listed m (x ∷ xs) f =
+      let below = length_listed m xs (λ y i. f y (Memᴰ.tail i)) in
+      omega (arith, f x (Memᴰ.head refl), length-append (lists x) (listed lists xs h))
+
+  some_listed : (xs : List X) → 0 < length (listed lists xs h)
+  some_listed [] = omega arith
+  some_listed (x ∷ xs) = omega (arith, some_listed xs, length-append (lists x) (listed lists xs h))
 
 pub edf_length : (cs : List Charged) → AllFit cs → (h : ℕ) → length (edf_times cs h) ≤ length cs * h + 1
 unfolding edf_times
-edf_length [] f h = omega arith
-edf_length (c ∷ cs) f h =
-    let below : length (edf_times cs h) ≤ length cs * h + 1 = edf_length cs (rest f) h in
-    let e = length-append (dues c h) (edf_times cs h) in
-    let l = length-map-range_with_len (λ k. c.deadline + k * c.period) 0 (jobs c.deadline c.period h) in
-    let j = jobs_le c.deadline c.period h (first f).deadline in
-    omega arith
+edf_length cs f h = length_listed (λ c. dues c h) h h cs few
+  where
+    few : (c : Charged) → Memᴰ c cs → length (dues c h) ≤ h
+    few c i = omega (arith, length-map-range_with_len (λ k. c.deadline + k * c.period) 0 (jobs c.deadline c.period h), jobs_le c.deadline c.period h (f c i).deadline)
 
 -- ---- fixed priority
 
 pub fp_length : (rank d : ℕ) (cs : List Charged) → length (fp_times rank d cs) ≤ length cs * d + 1
 unfolding fp_times
-fp_length rank d [] = omega arith
-fp_length rank d (a ∷ cs) = way (nat_lt a.rank rank) (fp_length rank d cs)
+fp_length rank d cs = length_listed (λ a. cond (nat_lt a.rank rank) (turns a d) []) d d cs (λ a i. few a (nat_lt a.rank rank))
   where
-    way : (b : Bool) → length (fp_times rank d cs) ≤ length cs * d + 1 → length (cond b (turns a d) [] ++ fp_times rank d cs) ≤ suc (length cs) * d + 1
-    way true below =
-        let e = length-append (turns a d) (fp_times rank d cs) in
-        let l = length-map-range_with_len (λ k. (k + 1) * a.period) 0 (d / a.period) in
-        let q = div-le_self d a.period in
-        omega arith
-    way false below = omega arith
+    few : (a : Charged) (b : Bool) → length (cond b (turns a d) []) ≤ d
+    few a true = omega (arith, length-map-range_with_len (λ k. (k + 1) * a.period) 0 (d / a.period), div-le_self d a.period)
+    few a false = omega arith
 
 pub fp_some : (rank d : ℕ) (cs : List Charged) → 0 < length (fp_times rank d cs)
 unfolding fp_times
-fp_some rank d [] = omega arith
-fp_some rank d (a ∷ cs) =
-    let below : 0 < length (fp_times rank d cs) = fp_some rank d cs in
-    let e = length-append (cond (nat_lt a.rank rank) (turns a d) []) (fp_times rank d cs) in omega arith
+fp_some rank d cs = some_listed (λ a. cond (nat_lt a.rank rank) (turns a d) []) d cs
 
 pub fp_group_length : (cs : List Charged) (c : Charged) → length (fp_group cs c) ≡ length (fp_times c.rank c.deadline cs)
 fp_group_length cs c = length-map (fp_times c.rank c.deadline cs) (λ t. (t, c.cycles + above c.rank cs t))
