@@ -1,15 +1,9 @@
 -- Points that are asked one by one, and the test over all of them.
-use Rattle.std.proofs.Common.{◌≡◌, ℕ, ◌<◌, ◌≤◌, Bool, true, false, cond, ltb, leb, List, [], length, get_or, Some, None, vec_items, Option, sym, ap, ◌∙◌, subst, ⊎_elim, arith, le-ltb, le-leb, leb-true}
+use Rattle.std.proofs.Common.{◌≡◌, ℕ, ◌<◌, ◌≤◌, Bool, true, false, cond, ltb, leb, List, [], length, get_or, Some, None, Option, sym, ap, ◌∙◌, subst, ⊎_elim, arith, le-ltb, le-leb, leb-true}
 use Rattle.std.proofs.lemmas.Bool.{cases_lt, cases_Bool}
 use Rattle.std.proofs.lemmas.List.{get_or_past}
 use Rattle.supply.specs.Laws.{longest_window}
-use Rattle.demand.specs.Ranks.{Set}
-use Rattle.demand.specs.declared.set.TaskSet.{TaskSet}
 use Rattle.demand.specs.Tests.{point, Covered, Passes}
-
--- a task set is a set
-pub the_set : (s : TaskSet) → Set (vec_items s.tasks)
-the_set s = record { few = omega (arith, s.few, s.tasks.ok.0); apart = s.apart }
 
 -- an index that answered a point lies within the group
 pub within : (n i : ℕ) (p : ℕ × ℕ) → (n ≤ i → Some p ≡ None) → i < n

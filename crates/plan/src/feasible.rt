@@ -1,5 +1,6 @@
 ghost use Rattle.std.specs.Prelude.{◌≡◌, ℕ, true, false, if◌then◌else◌, Decides, MatchOption, nat_le, nat_lt};
 ghost use Rattle.processor.specs.declared.drive.Drive.{Drive};
+ghost use Rattle.demand.specs.Ranks.{Set};
 ghost use Rattle.supply.specs.Laws.{longest_window};
 ghost use Rattle.plan.specs.Feasible.{Feasible};
 
@@ -23,14 +24,17 @@ pub struct Trial<'a, P: Platform, Q: Policy> {
     platform: &'a P,
     policy: &'a Q,
     set: &'a TaskSet,
-    ghost spanned: { Q.Policy.span policy.now set.now.tasks.items ≡ true },
+    ghost limits: { Set set.now },
+    ghost spanned: { Q.Policy.span policy.now set.now ≡ true },
 }
 
 impl<'a, P: Platform, Q: Policy> Trial<'a, P, Q> {
     // The condition, where the policy can decide the set.
     pub fn new(platform: &'a P, policy: &'a Q, set: &'a TaskSet) -> Option<Trial<'a, P, Q>>
-        ensures { MatchOption result (Q.Policy.span policy.now set.now.tasks.items ≡ false) (λ t. (t.platform.now ≡ platform.now) × (t.policy.now ≡ policy.now) × (t.set.now ≡ set.now)) }
+        ensures { MatchOption result (Q.Policy.span policy.now set.now ≡ false) (λ t. (t.platform.now ≡ platform.now) × (t.policy.now ≡ policy.now) × (t.set.now ≡ set.now)) }
     {
+        // What a set keeps, its tasks show: they are few, and of different ranks.
+        let _tasks = set.tasks();
         if !policy.spans(set) {
             return None;
         }
@@ -52,7 +56,7 @@ impl<'a, P: Platform, Q: Policy> Trial<'a, P, Q> {
 }
 
 impl<P: Platform, Q: Policy> Condition for Trial<'_, P, Q> {
-    ghost meets = { λ t d. Feasible (P.Platform.supply t.platform.now) (Q.Policy.full t.policy.now) t.set.now.tasks.items d };
+    ghost meets = { λ t d. Feasible (P.Platform.supply t.platform.now) (Q.Policy.full t.policy.now) t.set.now d };
 
     // Each group of the policy's points has one that is supplied.
     fn meets(&self, drive: &Drive) -> bool {

@@ -37,8 +37,8 @@ impl Opening {
     // Opens the plan, without tasks. It names the cheapest drive of all.
     pub fn open<P: Platform, Q: Policy>(self, platform: P, policy: Q) -> Plan<P, Q>
         ensures kept { (result.processor ≡ self.processor) × (result.platform ≡ platform) × (result.policy ≡ policy) }
-        ensures empty { (result.table.set.tasks.items ≡ []) × (result.table.tickets.items ≡ []) × (result.given ≡ 0) }
-        ensures sound { Sound result.processor (Q.Policy.span result.policy) (Feasible (P.Platform.supply result.platform) (Q.Policy.full result.policy)) result.table.set.tasks.items result.drive }
+        ensures empty { (result.table.set ≡ []) × (result.table.tickets.items ≡ []) × (result.given ≡ 0) }
+        ensures sound { Sound result.processor (Q.Policy.span result.policy) (Feasible (P.Platform.supply result.platform) (Q.Policy.full result.policy)) result.table.set result.drive }
     {
         let Opening { processor, table } = self;
         let Some(trial) = Trial::new(&platform, &policy, table.set()) else {

@@ -9,6 +9,6 @@ pub struct Opening {
     pub(crate) processor: Processor,
     pub(crate) table: TaskTable,
     ghost some_mode: { 0 < length processor.modes.items },
-    ghost no_tasks: { length table.set.tasks.items ≡ 0 },
+    ghost no_tasks: { length table.set ≡ 0 },
     ghost no_tickets: { length table.tickets.items ≡ 0 },
 }

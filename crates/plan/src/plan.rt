@@ -50,13 +50,13 @@ impl<P: Platform, Q: Policy> Plan<P, Q> {
 
     // Takes a task in and answers its ticket.
     pub fn admit(&mut self, figures: Figures) -> Result<u32, Refusal>
-        ensures answer { Admits self.old.processor (Q.Policy.span self.old.policy) (Feasible (P.Platform.supply self.old.platform) (Q.Policy.full self.old.policy)) self.old.table.set.tasks.items self.old.given figures result }
-        ensures tasks { HoldsAfter self.old.table.set.tasks.items figures self.new.table.set.tasks.items result }
+        ensures answer { Admits self.old.processor (Q.Policy.span self.old.policy) (Feasible (P.Platform.supply self.old.platform) (Q.Policy.full self.old.policy)) self.old.table.set self.old.given figures result }
+        ensures tasks { HoldsAfter self.old.table.set figures self.new.table.set result }
         ensures tickets { MatchResult result (λ n. (self.new.given ≡ n) × (self.new.table.tickets.items ≡ self.old.table.tickets.items ++ n ∷ [])) (λ _. (self.new.given ≡ self.old.given) × (self.new.table.tickets.items ≡ self.old.table.tickets.items) × (self.new.drive ≡ self.old.drive)) }
         ensures kept { (self.new.processor ≡ self.old.processor) × (self.new.platform ≡ self.old.platform) × (self.new.policy ≡ self.old.policy) }
-        ensures sound { Sound self.old.processor (Q.Policy.span self.old.policy) (Feasible (P.Platform.supply self.old.platform) (Q.Policy.full self.old.policy)) self.old.table.set.tasks.items self.old.drive → Sound self.new.processor (Q.Policy.span self.new.policy) (Feasible (P.Platform.supply self.new.platform) (Q.Policy.full self.new.policy)) self.new.table.set.tasks.items self.new.drive }
+        ensures sound { Sound self.old.processor (Q.Policy.span self.old.policy) (Feasible (P.Platform.supply self.old.platform) (Q.Policy.full self.old.policy)) self.old.table.set self.old.drive → Sound self.new.processor (Q.Policy.span self.new.policy) (Feasible (P.Platform.supply self.new.platform) (Q.Policy.full self.new.policy)) self.new.table.set self.new.drive }
     {
-        let task = Task::new(figures)?;
+        let task = Task::try_from(figures)?;
         let ticket = self.given + 1;
         self.table.add(ticket, task)?;
         match self.settled(ticket) {
@@ -74,7 +74,7 @@ impl<P: Platform, Q: Policy> Plan<P, Q> {
 
     // The cheapest drive for the tasks in the table, if the newest may have its ticket.
     fn settled(&self, ticket: u32) -> Result<Drive, Refusal>
-        ensures { Settles self.now.processor (Q.Policy.span self.now.policy) (Feasible (P.Platform.supply self.now.platform) (Q.Policy.full self.now.policy)) self.now.table.set.tasks.items ticket result }
+        ensures { Settles self.now.processor (Q.Policy.span self.now.policy) (Feasible (P.Platform.supply self.now.platform) (Q.Policy.full self.now.policy)) self.now.table.set ticket result }
     {
         if ticket > LAST_TICKET {
             return Err(Refusal::NoTickets);

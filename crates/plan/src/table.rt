@@ -13,14 +13,14 @@ use std::alloc::{AllocError, Global};
 pub struct TaskTable {
     tickets: Vec<u32>,
     set: TaskSet,
-    ghost same: { length tickets.items ≡ length set.tasks.items },
+    ghost same: { length tickets.items ≡ length set },
     ghost room: { most_tasks ≤ vec_capacity tickets },
 }
 
 impl TaskTable {
     pub fn new(heap: Global) -> Result<TaskTable, AllocError>
         ensures tickets { IfOk result (λ t. t.tickets.items ≡ []) }
-        ensures tasks { IfOk result (λ t. t.set.tasks.items ≡ []) }
+        ensures tasks { IfOk result (λ t. t.set ≡ []) }
     {
         let tickets = Vec::with_capacity(heap, MOST_TASKS)?;
         let set = TaskSet::new(heap)?;
@@ -35,9 +35,9 @@ impl TaskTable {
 
     // Takes one task more, under its ticket.
     pub fn add(&mut self, ticket: u32, task: Task) -> Result<(), Refusal>
-        ensures answer { result ≡ (if has_rank task.rank self.old.set.tasks.items then Err RankTaken else (if nat_lt (length self.old.set.tasks.items) most_tasks then Ok tt else Err PlanFull)) }
+        ensures answer { result ≡ (if has_rank task.rank self.old.set then Err RankTaken else (if nat_lt (length self.old.set) most_tasks then Ok tt else Err PlanFull)) }
         ensures tickets { self.new.tickets.items ≡ (if is_ok result then self.old.tickets.items ++ ticket ∷ [] else self.old.tickets.items) }
-        ensures tasks { self.new.set.tasks.items ≡ (if is_ok result then self.old.set.tasks.items ++ task ∷ [] else self.old.set.tasks.items) }
+        ensures tasks { self.new.set ≡ (if is_ok result then self.old.set ++ task ∷ [] else self.old.set) }
     {
         self.set.add(task)?;
         self.tickets.push_reserved(ticket);
@@ -47,7 +47,7 @@ impl TaskTable {
     // Takes the newest task out again.
     pub fn drop_newest(&mut self)
         ensures tickets { self.new.tickets.items ≡ take (length self.old.tickets.items - 1) self.old.tickets.items }
-        ensures tasks { self.new.set.tasks.items ≡ take (length self.old.set.tasks.items - 1) self.old.set.tasks.items }
+        ensures tasks { self.new.set ≡ take (length self.old.set - 1) self.old.set }
     {
         self.set.drop_newest();
         let _ = self.tickets.pop();

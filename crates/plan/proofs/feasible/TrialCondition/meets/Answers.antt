@@ -1,14 +1,14 @@
-use Rattle.std.proofs.Common.{◌≡◌, ℕ, ◌<◌, ◌≤◌, [], length, get_or, vec_items, refl, ⊎_elim, arith, below_more, eq-eqb, eqb-true}
+use Rattle.std.proofs.Common.{◌≡◌, ℕ, ◌<◌, ◌≤◌, [], length, get_or, refl, ⊎_elim, arith, below_more, eq-eqb, eqb-true}
 use Rattle.std.proofs.lemmas.Bool.{cases_lt}
 use Rattle.processor.specs.Drives.{peak}
 use Rattle.demand.specs.Charges.{charges}
 use Rattle.demand.specs.Tests.{point}
-use Rattle.plan.proofs.Tested.{the_set, within, beyond, covered, uncovered, failing}
+use Rattle.plan.proofs.Tested.{within, beyond, covered, uncovered, failing}
 use Rattle.plan.proofs.feasible.TrialCondition.meets.Goals as goal
 
 pub groups-preserved : goal.groups-preserved
 groups-preserved g c =
-    let gs = g.Q.Policy.groups c.args.self.now.policy.now (charges (peak c.args.drive.now) (vec_items c.args.self.now.set.now.tasks)) in
+    let gs = g.Q.Policy.groups c.args.self.now.policy.now (charges (peak c.args.drive.now) c.args.self.now.set.now) in
     let i : c.points.index < length (get_or gs c.groups.group []) = within _ _ _ c.in-Some.ensures.beyond in
     below_more _ _ c.groups.invariant (
       c.points.index,
@@ -19,25 +19,25 @@ groups-preserved g c =
 
 pub points-preserved : goal.points-preserved
 points-preserved g c =
-    let gs = g.Q.Policy.groups c.args.self.now.policy.now (charges (peak c.args.drive.now) (vec_items c.args.self.now.set.now.tasks)) in
+    let gs = g.Q.Policy.groups c.args.self.now.policy.now (charges (peak c.args.drive.now) c.args.self.now.set.now) in
     let i : c.points.index < length (get_or gs c.groups.group []) = within _ _ _ c.in-Some.ensures.beyond in
     below_more _ _ c.points.invariant (
       i,
       uncovered (g.P.Platform.supply c.args.self.now.platform.now c.args.drive.now) (point gs c.groups.group c.points.index) c.in-Some.time c.in-Some.work c.covers.result
           (c.in-Some.ensures.within i) c.covers.ensures c.if-covers.false
-          (g.met.Q.Policy.early c.args.self.now.policy.now (vec_items c.args.self.now.set.now.tasks) (the_set c.args.self.now.set.now) c.args.self.now.spanned (peak c.args.drive.now) c.groups.group c.points.index i),
+          (g.met.Q.Policy.early c.args.self.now.policy.now c.args.self.now.set.now c.args.self.now.limits c.args.self.now.spanned (peak c.args.drive.now) c.groups.group c.points.index i),
     )
 
 pub returns-in_default : goal.returns-in_default
 returns-in_default g c =
-    let gs = g.Q.Policy.groups c.args.self.now.policy.now (charges (peak c.args.drive.now) (vec_items c.args.self.now.set.now.tasks)) in
+    let gs = g.Q.Policy.groups c.args.self.now.policy.now (charges (peak c.args.drive.now) c.args.self.now.set.now) in
     let n : length (get_or gs c.groups.group []) ≤ c.points.index =
     beyond _ _ (point gs c.groups.group c.points.index) c.point.result c.in_default.is c.point.ensures.within in
-    let x = g.met.Q.Policy.exact c.args.self.now.policy.now (vec_items c.args.self.now.set.now.tasks) (the_set c.args.self.now.set.now) c.args.self.now.spanned (peak c.args.drive.now) (g.P.Platform.supply c.args.self.now.platform.now c.args.drive.now) (g.met.P.Platform.lawful c.args.self.now.platform.now c.args.drive.now) in (
+    let x = g.met.Q.Policy.exact c.args.self.now.policy.now c.args.self.now.set.now c.args.self.now.limits c.args.self.now.spanned (peak c.args.drive.now) (g.P.Platform.supply c.args.self.now.platform.now c.args.drive.now) (g.met.P.Platform.lawful c.args.self.now.platform.now c.args.drive.now) in (
       (λ e.
           let z = eqb-true c.points.index 0 e in
           x.0 (λ k l. c.groups.invariant k
-          (⊎_elim (λ m. let f = g.met.Q.Policy.filled c.args.self.now.policy.now (vec_items c.args.self.now.set.now.tasks) (the_set c.args.self.now.set.now) c.args.self.now.spanned (peak c.args.drive.now) c.groups.group m in absurd (omega arith)) (λ m. omega arith)
+          (⊎_elim (λ m. let f = g.met.Q.Policy.filled c.args.self.now.policy.now c.args.self.now.set.now c.args.self.now.limits c.args.self.now.spanned (peak c.args.drive.now) c.groups.group m in absurd (omega arith)) (λ m. omega arith)
           (cases_lt c.groups.group (length gs))))),
       (λ f. eq-eqb c.points.index 0
           (⊎_elim (λ m. absurd (failing (g.P.Platform.supply c.args.self.now.platform.now c.args.drive.now) gs c.groups.group c.points.index c.points.invariant m n (x.1 f))) (λ m. omega arith)
@@ -46,15 +46,15 @@ returns-in_default g c =
 
 pub returns-in-groups : goal.returns-in-groups
 returns-in-groups g c =
-    let gs = g.Q.Policy.groups c.args.self.now.policy.now (charges (peak c.args.drive.now) (vec_items c.args.self.now.set.now.tasks)) in
-    let x = g.met.Q.Policy.exact c.args.self.now.policy.now (vec_items c.args.self.now.set.now.tasks) (the_set c.args.self.now.set.now) c.args.self.now.spanned (peak c.args.drive.now) (g.P.Platform.supply c.args.self.now.platform.now c.args.drive.now) (g.met.P.Platform.lawful c.args.self.now.platform.now c.args.drive.now) in
-    let s = g.met.Q.Policy.short c.args.self.now.policy.now (vec_items c.args.self.now.set.now.tasks) (the_set c.args.self.now.set.now) c.args.self.now.spanned (peak c.args.drive.now) c.groups.group in (
+    let gs = g.Q.Policy.groups c.args.self.now.policy.now (charges (peak c.args.drive.now) c.args.self.now.set.now) in
+    let x = g.met.Q.Policy.exact c.args.self.now.policy.now c.args.self.now.set.now c.args.self.now.limits c.args.self.now.spanned (peak c.args.drive.now) (g.P.Platform.supply c.args.self.now.platform.now c.args.drive.now) (g.met.P.Platform.lawful c.args.self.now.platform.now c.args.drive.now) in
+    let s = g.met.Q.Policy.short c.args.self.now.policy.now c.args.self.now.set.now c.args.self.now.limits c.args.self.now.spanned (peak c.args.drive.now) c.groups.group in (
       (λ e. let z : ◌≡◌ {A = ℕ} 0 1 = cc in absurd (omega arith)),
       (λ f. absurd (failing (g.P.Platform.supply c.args.self.now.platform.now c.args.drive.now) gs c.groups.group c.points.index c.points.invariant (omega arith) (omega arith) (x.1 f))),
     )
 
 pub returns : goal.returns
 returns g c =
-    let x = g.met.Q.Policy.exact c.args.self.now.policy.now (vec_items c.args.self.now.set.now.tasks) (the_set c.args.self.now.set.now) c.args.self.now.spanned (peak c.args.drive.now) (g.P.Platform.supply c.args.self.now.platform.now c.args.drive.now) (g.met.P.Platform.lawful c.args.self.now.platform.now c.args.drive.now) in
-    let s = g.met.Q.Policy.few c.args.self.now.policy.now (vec_items c.args.self.now.set.now.tasks) (the_set c.args.self.now.set.now) c.args.self.now.spanned (peak c.args.drive.now) in
+    let x = g.met.Q.Policy.exact c.args.self.now.policy.now c.args.self.now.set.now c.args.self.now.limits c.args.self.now.spanned (peak c.args.drive.now) (g.P.Platform.supply c.args.self.now.platform.now c.args.drive.now) (g.met.P.Platform.lawful c.args.self.now.platform.now c.args.drive.now) in
+    let s = g.met.Q.Policy.few c.args.self.now.policy.now c.args.self.now.set.now c.args.self.now.limits c.args.self.now.spanned (peak c.args.drive.now) in
     ((λ e. x.0 (λ k l. c.groups.invariant k (omega arith))), (λ f. refl))

@@ -1,4 +1,4 @@
-use Rattle.std.proofs.Common.{◌≡◌, List, [], vec_items, sym, ap, ◌∙◌, subst}
+use Rattle.std.proofs.Common.{◌≡◌, List, [], sym, ◌∙◌, subst}
 use Rattle.std.proofs.lemmas.List.{nil_from_length}
 use Rattle.processor.specs.declared.drive.Drive.TheVariants.{Fixed}
 use Rattle.demand.specs.Charges.{charges}
@@ -11,8 +11,8 @@ pub unreachable-requires-in_default-cheapest : goal.unreachable-requires-in_defa
 unreachable-requires-in_default-cheapest g c =
     let o = c.args.self in
     let t = c.in-Some.trial in
-    let e : vec_items t.set.now.tasks ≡ [] =
-    ap (λ v. vec_items v.tasks) (c.in-Some.ensures.2 ∙ c.set.ensures) ∙ nil_from_length (vec_items o.table.set.tasks) o.no_tasks in
+    let e : t.set.now ≡ [] =
+    c.in-Some.ensures.2 ∙ c.set.ensures ∙ nil_from_length o.table.set o.no_tasks in
     let (m, listed) = some_candidate o.processor o.some_mode in
     let Z = g.P.Platform.supply t.platform.now (Fixed m) in
     let F : List Task → Type 0 = λ ts. g.Q.Policy.full t.policy.now (charges m.speed ts) Z in
