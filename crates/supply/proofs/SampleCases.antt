@@ -14,9 +14,7 @@ abbrev sample : Pattern
 sample = record { down = 160; up = 240; low_time = 5760; high_time = 3840; low_speed = 20; high_speed = 40 }
 
 pattern_is : (p : Pair) → Sample p → pattern_of p ≡ sample
-pattern_is p s =
-    let h : p.high_time ≡ 3840 = omega (arith, p.whole, s.frame, s.low_time) in
-    cc (h, s.down, s.up, s.low_time, s.low_speed, s.high_speed)
+pattern_is p s = grind (arith, p.whole, s)
 
 pub sampled : SamplesSupply
 unfolding closed piece

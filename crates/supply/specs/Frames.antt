@@ -1,8 +1,7 @@
 -- A pattern g that repeats with period P, by the totals G of one period.
 use Rattle.std.specs.Prelude.{◌≡◌, ℕ, suc, ◌+◌, ◌*◌, ◌/◌, ◌%◌, ◌<◌}
-use Rattle.std.proofs.Common.{sym, ap, ap₂, ◌∙◌, ⊎_elim, arith, mod-lt, div-add-mod', add-mul}
+use Rattle.std.proofs.Common.{sym, ap, ap₂, ◌∙◌, arith, mod-lt, div-add-mod', add-mul}
 use Rattle.std.proofs.Math.Arith.{digits_div, digits_mod}
-use Rattle.std.proofs.lemmas.Bool.{cases_lt}
 use Rattle.supply.specs.Windows.{window}
 use Rattle.supply.specs.WindowsLemmas.{window_total}
 
@@ -21,24 +20,11 @@ module _ (g G : ℕ → ℕ) (P : ℕ) (pos : 0 < P) (start : G 0 ≡ 0) (step :
       let r = x % P in
       let l : r < P = mod-lt x pos in
       let d : q * P + r ≡ x = div-add-mod' x P in
-      let now = total_at x q r (omega arith) l in
-      let s = step r l in
-      ⊎_elim (λ h. let next = total_at (suc x) q (suc r) (omega arith) h in omega arith)
-      (λ h. let e : suc r ≡ P = omega arith in
-      let f = ap G e in
-      let a = add-mul q 1 P in
-      let b = add-mul q 1 (G P) in
-      let next = total_at (suc x) (q + 1) 0 (omega arith) pos in omega arith) (cases_lt (suc r) P)
+      grind (arith, start, step r l, add-mul q 1 P, add-mul q 1 (G P), total_at x q r, total_at (suc x) q (suc r), total_at (suc x) (q + 1) 0)
 
   total_frames : (q x : ℕ) → total (q * P + x) ≡ q * G P + total x
   total_frames q x =
-      let d : x / P * P + x % P ≡ x = div-add-mod' x P in
-      let a = add-mul q (x / P) P in
-      let b = add-mul q (x / P) (G P) in
-      let l : x % P < P = mod-lt x pos in
-      let u = total_at x (x / P) (x % P) (omega arith) l in
-      let v = total_at (q * P + x) (q + x / P) (x % P) (omega arith) l in
-      omega arith
+      grind (arith, div-add-mod' x P, mod-lt x pos, add-mul q (x / P) P, add-mul q (x / P) (G P), total_at x (x / P) (x % P), total_at (q * P + x) (q + x / P) (x % P))
 
   abbrev pub repeated : ℕ → ℕ
   repeated i = g (i % P)
@@ -46,17 +32,11 @@ module _ (g G : ℕ → ℕ) (P : ℕ) (pos : 0 < P) (start : G 0 ≡ 0) (step :
   -- a window within a frame, and one into the next
   pub window_inside : (s r : ℕ) → s + r < P → G s + window repeated s r ≡ G (s + r)
   window_inside s r h =
-      let w = window_total repeated total total_step s r in
-      let a = total_at s 0 s (omega arith) (omega arith) in
-      let b = total_at (s + r) 0 (s + r) (omega arith) h in
-      omega arith
+      grind (arith, window_total repeated total total_step s r, total_at s 0 s, total_at (s + r) 0 (s + r))
 
   pub window_across : (s r x : ℕ) → s < P → x < P → s + r ≡ P + x → G s + window repeated s r ≡ G P + G x
   window_across s r x h l e =
-      let w = window_total repeated total total_step s r in
-      let a = total_at s 0 s (omega arith) h in
-      let b = total_at (s + r) 1 x (omega arith) l in
-      omega arith
+      grind (arith, window_total repeated total total_step s r, total_at s 0 s, total_at (s + r) 1 x)
 
   -- whole frames come out of a window
   pub window_frames : (s t : ℕ) → window repeated s t ≡ t / P * G P + window repeated (s % P) (t % P)
@@ -65,12 +45,7 @@ module _ (g G : ℕ → ℕ) (P : ℕ) (pos : 0 < P) (start : G 0 ≡ 0) (step :
       let k = t / P in
       let d : q * P + s % P ≡ s = div-add-mod' s P in
       let c : k * P + t % P ≡ t = div-add-mod' t P in
-      let w = window_total repeated total total_step s t in
-      let v = window_total repeated total total_step (s % P) (t % P) in
-      let a = add-mul q k P in
-      let b = add-mul q k (G P) in
-      let e : s ≡ q * P + s % P = sym d in
-      let f : s + t ≡ (q + k) * P + (s % P + t % P) = omega arith in
-      let x = ap total e ∙ total_frames q (s % P) in
+      let f : s + t ≡ (q + k) * P + (s % P + t % P) = omega (arith, add-mul q k P) in
+      let x = ap total (sym d) ∙ total_frames q (s % P) in
       let y = ap total f ∙ total_frames (q + k) (s % P + t % P) in
-      omega arith
+      omega (arith, add-mul q k (G P), window_total repeated total total_step s t, window_total repeated total total_step (s % P) (t % P))

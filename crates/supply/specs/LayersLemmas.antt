@@ -1,6 +1,6 @@
 -- The layers keep the laws of the supply below.
 use Rattle.std.specs.Prelude.{◌≡◌, ℕ, ◌+◌, ◌-◌, ◌*◌, ◌/◌, ◌<◌, ◌≤◌, Ok}
-use Rattle.std.proofs.Common.{ap, arith, le_trans, zero-mul, add-mul, mul_comm, mul-le-mul_left, mul-le-mul_right, div-mul-le_self}
+use Rattle.std.proofs.Common.{sym, arith, le_trans, zero-mul, add-mul, mul_comm, mul-le-mul_left, mul-le-mul_right, div-mul-le_self}
 use Rattle.std.proofs.Math.Nat.{zero-div, div-le_of_le-mul}
 use Rattle.std.proofs.lemmas.Nat.{le-div}
 use Rattle.std.proofs.lemmas.Bool.Decides.{nat_tests}
@@ -18,12 +18,11 @@ div_rises d x y pos h = le-div (x / d) y d pos (le_trans (div-mul-le_self x d) h
 -- two quotients together are no more than the quotient of the sum
 div_joins : (d x y : ℕ) → 0 < d → x / d + y / d ≤ (x + y) / d
 div_joins d x y pos =
-    le-div (x / d + y / d) (x + y) d pos
-    (let a = div-mul-le_self x d in let b = div-mul-le_self y d in rw (add-mul (x / d) (y / d) d) (omega arith))
+    le-div (x / d + y / d) (x + y) d pos (rw (add-mul (x / d) (y / d) d) (omega (arith, div-mul-le_self x d, div-mul-le_self y d)))
 
 -- a part of x is no more than x
 part_le : (x n d : ℕ) → 0 < d → n ≤ d → x * n / d ≤ x
-part_le x n d pos h = div-le_of_le-mul d (let e = mul_comm d x in let m : x * n ≤ x * d = mul-le-mul_left x h in omega arith)
+part_le x n d pos h = div-le_of_le-mul d (rw (mul_comm d x) (mul-le-mul_left x h))
 
 module _ {top : ℕ} {Z : ℕ → ℕ} (laws : Lawful top Z) where
   pub share_lawful : (n d : ℕ) → 1 ≤ n → n ≤ d → Lawful top (share_of n d Z)
@@ -34,30 +33,24 @@ module _ {top : ℕ} {Z : ℕ → ℕ} (laws : Lawful top Z) where
         rises = λ t. div_rises d (Z t * n) (Z (t + 1) * n) pos (mul-le-mul_right n (laws.rises t));
         joins = λ a b. le_trans (div_joins d (Z a * n) (Z b * n) pos)
             (div_rises d (Z a * n + Z b * n) (Z (a + b) * n) pos
-            (let e = add-mul (Z a) (Z b) n in let m : (Z a + Z b) * n ≤ Z (a + b) * n = mul-le-mul_right n (laws.joins a b) in omega arith));
+            (rw (sym (add-mul (Z a) (Z b) n)) (mul-le-mul_right n (laws.joins a b))));
         below = λ t. le_trans (part_le (Z t) n d pos part) (laws.below t);
       }
 
   -- a longer window supplies no less
   monotone : (a b : ℕ) → a ≤ b → Z a ≤ Z b
-  monotone a b h =
-      let e : a + (b - a) ≡ b = omega arith in
-      let f = ap Z e in
-      let j = laws.joins a (b - a) in
-      omega arith
+  monotone a b h = grind (arith, laws.joins a (b - a))
 
   -- a holdoff without cases, since there is no supply at 0
   held : (d t : ℕ) → holdoff_of d Z t ≡ Z (t - d)
-  held d t = let z = laws.zero in grind (arith, nat_tests)
+  held d t = grind (arith, nat_tests, laws.zero)
 
   pub holdoff_lawful : (d : ℕ) → Lawful top (holdoff_of d Z)
   holdoff_lawful d = record {
-    zero = (let e : 0 - d ≡ 0 = omega arith in let f = ap Z e in omega (arith, held d 0, laws.zero));
-    rises = λ t. (let m = monotone (t - d) (t + 1 - d) (omega arith) in omega (arith, held d t, held d (t + 1)));
-    joins = λ a b. (let j = laws.joins (a - d) (b - d) in
-        let m = monotone ((a - d) + (b - d)) (a + b - d) (omega arith) in omega (arith, held d a, held d b, held d (a + b)));
-    below = λ t. (let h = laws.below (t - d) in
-        let m : top * (t - d) ≤ top * t = mul-le-mul_left top (omega arith) in omega (arith, held d t));
+    zero = grind (arith, held d 0, laws.zero);
+    rises = λ t. omega (arith, monotone (t - d) (t + 1 - d) (omega arith), held d t, held d (t + 1));
+    joins = λ a b. omega (arith, laws.joins (a - d) (b - d), monotone ((a - d) + (b - d)) (a + b - d) (omega arith), held d a, held d b, held d (a + b));
+    below = λ t. rw (held d t) (le_trans (laws.below (t - d)) (mul-le-mul_left top (omega arith)));
   }
 
 peak_small : (d : Drive) → peak d ≤ top_speed
@@ -66,7 +59,4 @@ peak_small (Turns p) = p.high.slow
 
 -- what a platform answers is no more than the top speed over the longest window
 pub answer_small : (d : Drive) (Z : ℕ → ℕ) → Lawful (peak d) Z → (t x : ℕ) → Ok x ≡ answer_of Z t → x ≤ top_speed * longest_window
-answer_small d Z laws t x e =
-    let h = laws.below t in
-    let k : peak d * t ≤ top_speed * t = mul-le-mul_right t (peak_small d) in
-    grind (arith, nat_tests)
+answer_small d Z laws t x e = grind (arith, nat_tests, laws.below t, mul-le-mul_right t (peak_small d))

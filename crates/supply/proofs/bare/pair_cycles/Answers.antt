@@ -9,4 +9,4 @@ pub overflow_add-result : goal.overflow_add-result
 overflow_add-result g c = let e = least_at c.args.pair.now c.args.window in let h = least_below c.args.pair.now c.args.window in grind arith
 
 pub returns : goal.returns
-returns g c = let e = least_at c.args.pair.now c.args.window in grind arith
+returns g c = grind (arith, least_at c.args.pair.now c.args.window)

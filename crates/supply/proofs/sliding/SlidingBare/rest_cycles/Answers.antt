@@ -11,12 +11,10 @@ loop-start-init c = record { at_start = c.first_cycles-cycles.ensures; least_so_
 
 pub overflow_add-cycles : goal.overflow_add-cycles
 overflow_add-cycles c =
-    let h = window_small c.args.pair.now c.loop-start.start c.args.rest in
-    let k = speed_small c.args.pair.now (c.loop-start.start + c.args.rest) in
-    omega arith
+    omega (arith, window_small c.args.pair.now c.loop-start.start c.args.rest, speed_small c.args.pair.now (c.loop-start.start + c.args.rest))
 
 pub overflow_sub-cycles : goal.overflow_sub-cycles
-overflow_sub-cycles c = let w = window_slides (speed (pattern_of c.args.pair.now)) c.loop-start.start c.args.rest in omega arith
+overflow_sub-cycles c = omega (arith, window_slides (speed (pattern_of c.args.pair.now)) c.loop-start.start c.args.rest)
 
 pub loop-start-preserved : goal.loop-start-preserved
 unfolding least_upto
