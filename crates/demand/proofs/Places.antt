@@ -25,27 +25,6 @@ nth_after (x ∷ xs) ys (suc n) (suc i) e h =
     let z : suc i - suc n ≡ i - n = omega arith in
     nth_after xs ys n i (omega arith) (omega arith) ∙ ap (slice_get ys) (sym z)
 
-pub nth_map : {X Y : Type 0} (f : X → Y) (xs : List X) (i : ℕ) (x : X) → slice_get xs i ≡ Some x → slice_get (map f xs) i ≡ Some (f x)
-nth_map f [] i x e = let z : ◌≡◌ {A = ℕ} 0 1 = cc in absurd (omega arith)
-nth_map f (y ∷ xs) zero x e = let z : y ≡ x = cc in ap (λ v. Some (f v)) z
-nth_map f (y ∷ xs) (suc i) x e = nth_map f xs i x e
-
-pub nth_map_none : {X Y : Type 0} (f : X → Y) (xs : List X) (i : ℕ) → slice_get xs i ≡ None → slice_get (map f xs) i ≡ None
-nth_map_none f [] i e = refl
-nth_map_none f (y ∷ xs) zero e = let z : ◌≡◌ {A = ℕ} 0 1 = cc in absurd (omega arith)
-nth_map_none f (y ∷ xs) (suc i) e = nth_map_none f xs i e
-
--- the group of what stands at a place
-pub get_or_nth : {X : Type 0} (xs : List X) (i : ℕ) (x d : X) → slice_get xs i ≡ Some x → get_or xs i d ≡ x
-get_or_nth [] i x d e = let z : ◌≡◌ {A = ℕ} 0 1 = cc in absurd (omega arith)
-get_or_nth (y ∷ xs) zero x d e = cc
-get_or_nth (y ∷ xs) (suc i) x d e = get_or_nth xs i x d e
-
-pub get_or_none : {X : Type 0} (xs : List X) (i : ℕ) (d : X) → slice_get xs i ≡ None → get_or xs i d ≡ d
-get_or_none [] i d e = refl
-get_or_none (y ∷ xs) zero d e = let z : ◌≡◌ {A = ℕ} 0 1 = cc in absurd (omega arith)
-get_or_none (y ∷ xs) (suc i) d e = get_or_none xs i d e
-
 -- an answer that is what stands at a place
 module _ (G : List (ℕ × ℕ)) (i : ℕ) (r : Option (ℕ × ℕ)) (e : r ≡ slice_get G i) where
   pub place_within : i < length G → r ≡ Some (get_or G i (0, 0))
