@@ -1,4 +1,4 @@
--- What stands at a place of a listing, and how the code comes to it.
+-- What stands at a place of a list, and of what tasks list.
 use Rattle.std.proofs.Common.{◌≡◌, ℕ, cond, nat_lt, zero, suc, ◌+◌, ◌-◌, ◌*◌, ◌/◌, ◌<◌, ◌≤◌, List, [], ◌∷◌, ◌++◌, map, length, get_or, drop, Some, None, Option, sym, refl, ap, ◌∙◌, arith, le-ltb, lt-ltb, MatchOption}
 use Rattle.std.specs.List.{range_with_len, slice_get}
 use Rattle.std.proofs.lemmas.List.{drop_more}
@@ -68,7 +68,7 @@ module _ (f : ℕ → ℕ) (n : ℕ) (ys : List ℕ) (k : ℕ) where
   pub listed_after : n ≤ k → slice_get (map f (range_with_len 0 n) ++ ys) k ≡ slice_get ys (k - n)
   listed_after h = nth_after (map f (range_with_len 0 n)) ys n k (length-map-range_with_len f 0 n) h
 
--- at a turn of the walk, and after all turns
+-- at a turn of the walk: left are k places, and the tasks from i on
 module _ {X : Type 0} (lists : X → List ℕ) (xs : List X) (i h k : ℕ) where
   abbrev pub at_turn : Option ℕ
   at_turn = slice_get (listed lists (drop i xs) h) k

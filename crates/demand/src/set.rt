@@ -41,6 +41,7 @@ impl TaskSet {
         Ok(TaskSet { tasks })
     }
 
+    // The tasks, in the order in which they came.
     pub fn tasks(&self) -> &[Task]
         ensures value { result.now ≡ self.now }
         ensures set { Set result.now }
