@@ -1,11 +1,11 @@
 -- The fields of a record, counted from its first.
-use Rattle.std.proofs.Common.{◌≡◌, ℕ, ◌+◌, ◌<◌, ◌≤◌, min, ◌⊎◌, List, length, sym, refl, ap, ◌∙◌, subst, inl, inr, ⊎_elim, add-one, arith}
+use Rattle.std.proofs.Common.{◌≡◌, ℕ, ◌+◌, ◌<◌, ◌≤◌, min, List, length, Some, None, Ok, Err, Option, Result, MatchResult, sym, refl, ap, ◌∙◌, subst, ⊎_elim, add-one, arith}
 use Rattle.std.proofs.lemmas.Bool.{cases_lt}
+use Rattle.std.specs.Result.{result_ok}
 use Rattle.rfc4180.specs.Places.{FieldAt, BrokenAt}
 use Rattle.rfc4180.specs.Records.{Before, start, more, Numbered, most_fields}
 use Rattle.rfc4180.specs.declared.part.Part.{Part}
-use Rattle.rfc4180.specs.declared.scan.After.{After}
-use Rattle.rfc4180.specs.declared.scan.After.TheVariants.{Comma, LineEnd, FileEnd}
+use Rattle.rfc4180.specs.declared.scan.After.TheVariants.{Comma}
 use Rattle.rfc4180.specs.declared.scan.Found.{Found}
 use Rattle.rfc4180.proofs.Fields.{field_once}
 
@@ -59,31 +59,20 @@ missing F s k x number b u n p h =
 pub other_after : (F : List ℕ) (x : ℕ) (f : Found) → FieldAt F x f → (f.after ≡ Comma → ⊥) → (g : Found) → FieldAt F x g → g.after ≡ Comma → ⊥
 other_after F x f h u g k c = u (ap (λ z. z.after) (field_once F x f g h k) ∙ c)
 
-no_comma : (a : After) → (a ≡ LineEnd) ⊎ (a ≡ FileEnd) → a ≡ Comma → ⊥
-no_comma a (inl h) k = let z : ◌≡◌ {A = ℕ} 0 1 = cc in omega arith
-no_comma a (inr h) k = let z : ◌≡◌ {A = ℕ} 0 1 = cc in omega arith
+some_none : {f : Found} → ◌≡◌ {A = Option Found} (Some f) None → ⊥
+some_none e = cc
 
--- no field has a number
-abbrev pub Nowhere : List ℕ → ℕ → ℕ → Type 0
-Nowhere F s number = (p : Part) → Numbered F s number p → ⊥
+-- what the reader of a field answers at a place of the file
+abbrev pub Read : List ℕ → ℕ → Result Found ℕ → Type 0
+Read F x r = MatchResult r (λ f. FieldAt F (min x (length F)) f) (λ e. BrokenAt F (min x (length F)) e)
 
--- the last field of a record has none after it
-pub stuck_last : (F : List ℕ) (s m k x number : ℕ) (f : Found) → s ≡ m → x ≤ length F → Before F s k x → FieldAt F (min x (length F)) f → (f.after ≡ LineEnd) ⊎ (f.after ≡ FileEnd) → k + 1 < number → Nowhere F m number
-stuck_last F s m k x number f e l b h a n =
-    subst (λ z. Nowhere F z number) e (stuck F s k x number b (other_after F x f (here_field F x f l h) (no_comma f.after a)) n)
+pub found_here : (F : List ℕ) (x : ℕ) (r : Result Found ℕ) (f : Found) → x ≤ length F → Read F x r → Some f ≡ result_ok r → FieldAt F x f
+found_here F x (Ok g) f l h e = let i : g ≡ f = cc in here_field F x f l (subst (λ z. FieldAt F (min x (length F)) z) i h)
+found_here F x (Err i) f l h e = absurd (some_none e)
 
--- nor has a broken one
-pub stuck_broken : (F : List ℕ) (s m k x number i : ℕ) → s ≡ m → x ≤ length F → Before F s k x → BrokenAt F (min x (length F)) i → k + 1 < number → Nowhere F m number
-stuck_broken F s m k x number i e l b h n =
-    subst (λ z. Nowhere F z number) e (stuck F s k x number b (λ f g _. (here_broken F x i l h).none f g) n)
-
-pub missing_broken : (F : List ℕ) (s m k x number i : ℕ) → s ≡ m → x ≤ length F → Before F s k x → BrokenAt F (min x (length F)) i → number ≡ k + 1 → Nowhere F m number
-missing_broken F s m k x number i e l b h n =
-    subst (λ z. Nowhere F z number) e (missing F s k x number b (here_broken F x i l h).none n)
-
-pub numbered : (F : List ℕ) (s m k x number : ℕ) (f : Found) → s ≡ m → x ≤ length F → Before F s k x → FieldAt F (min x (length F)) f → number ≡ k + 1 → Numbered F m number f.part
-numbered F s m k x number f e l b h n =
-    subst (λ z. Numbered F z number f.part) e (record { others = k; from = x; field = f; counted = n; before = b; here = here_field F x f l h; is = refl })
+pub none_here : (F : List ℕ) (x : ℕ) (r : Result Found ℕ) → x ≤ length F → Read F x r → None ≡ result_ok r → (f : Found) → FieldAt F x f → ⊥
+none_here F x (Ok g) l h e = absurd (some_none (sym e))
+none_here F x (Err i) l h e = (here_broken F x i l h).none
 
 -- one field has a number
 pub numbered_once : (F : List ℕ) (s number : ℕ) (p q : Part) → Numbered F s number p → Numbered F s number q → p ≡ q

@@ -1,5 +1,6 @@
 -- Where a field's text stops is settled by what follows it.
-use Rattle.std.proofs.Common.{◌≡◌, ℕ, ◌≢◌, List, [], ◌∷◌, ◌++◌, sym, refl, ◌∙◌, inl, inr, arith}
+use Rattle.std.proofs.Common.{◌≡◌, ℕ, zero, suc, ◌-◌, ◌<◌, ◌≤◌, ◌≢◌, List, [], ◌∷◌, ◌++◌, length, get_or, take, drop, sym, refl, ◌∙◌, inl, inr, arith, append_assoc}
+use Rattle.std.proofs.lemmas.List.{take_all}
 use Rattle.rfc4180.specs.Grammar.{Text, Quotable, Plain, none, text, Quoted, empty, byte, pair}
 
 -- no text byte comes first
@@ -13,10 +14,10 @@ QuotedStop [] = Unit {0}
 QuotedStop (b ∷ []) = Quotable b → ⊥
 QuotedStop (b ∷ c ∷ bs) = (Quotable b → ⊥) × (b ≡ 34 → c ≢ 34)
 
-head_is : {a b : ℕ} {xs bs : List ℕ} → a ∷ xs ≡ b ∷ bs → a ≡ b
+pub head_is : {a b : ℕ} {xs bs : List ℕ} → a ∷ xs ≡ b ∷ bs → a ≡ b
 head_is e = cc
 
-tail_is : {a b : ℕ} {xs bs : List ℕ} → a ∷ xs ≡ b ∷ bs → xs ≡ bs
+pub tail_is : {a b : ℕ} {xs bs : List ℕ} → a ∷ xs ≡ b ∷ bs → xs ≡ bs
 tail_is e = cc
 
 plain_not : {b : ℕ} (us vs : List ℕ) → Text b → us ≡ b ∷ vs → PlainStop us → ⊥
@@ -64,10 +65,11 @@ quoted_same us vs (pair {b = b} {c = c} {bs = bs} h k p) (pair {b = d} {c = f} {
     let z : c ≡ f = head_is (tail_is e) in
     cc
 
--- one text byte more
-pub plain_push : {xs : List ℕ} (b : ℕ) → Plain xs → Text b → Plain (xs ++ b ∷ [])
-plain_push b none h = text h none
-plain_push b (text k p) h = text k (plain_push b p h)
+-- text bytes in front make a plain text
+pub plain_front : (xs : List ℕ) (n : ℕ) → ((k : ℕ) → k < n → k < length xs → Text (get_or xs k 0)) → Plain (take n xs)
+plain_front xs zero h = none
+plain_front [] (suc n) h = none
+plain_front (x ∷ xs) (suc n) h = text (h 0 (omega arith) (omega arith)) (plain_front xs n (λ k l m. h (suc k) (omega arith) (omega arith)))
 
 -- one byte more between quotes
 pub quoted_push : {xs : List ℕ} (b : ℕ) → Quoted xs → Quotable b → Quoted (xs ++ b ∷ [])
@@ -80,3 +82,22 @@ pub quoted_pair : {xs : List ℕ} (b c : ℕ) → Quoted xs → b ≡ 34 → c �
 quoted_pair b c empty h i = pair h i empty
 quoted_pair b c (byte k p) h i = byte k (quoted_pair b c p h i)
 quoted_pair b c (pair k l p) h i = pair k l (quoted_pair b c p h i)
+
+-- what is left of a text after bytes that stand between quotes
+abbrev pub Passed : List ℕ → List ℕ → Type 0
+Passed rest left = (front : List ℕ) × Quoted front × (rest ≡ front ++ left)
+
+-- two quotes are passed
+pub passed_pair : (rest left : List ℕ) → Passed rest left → 2 ≤ length left → get_or left 0 0 ≡ 34 → get_or left 1 0 ≡ 34 → Passed rest (take (length left - 2) (drop 2 left))
+passed_pair rest [] p l h k = absurd (omega arith)
+passed_pair rest (b ∷ []) p l h k = absurd (omega arith)
+passed_pair rest (b ∷ c ∷ left) (front, q, e) l h k =
+    rw (take_all (length (b ∷ c ∷ left) - 2) left (omega arith))
+    (front ++ b ∷ c ∷ [], quoted_pair b c q h k, e ∙ sym (append_assoc front (b ∷ c ∷ []) left))
+
+-- a byte is passed
+pub passed_byte : (rest left : List ℕ) → Passed rest left → 1 ≤ length left → Quotable (get_or left 0 0) → Passed rest (take (length left - 1) (drop 1 left))
+passed_byte rest [] p l h = absurd (omega arith)
+passed_byte rest (b ∷ left) (front, q, e) l h =
+    rw (take_all (length (b ∷ left) - 1) left (omega arith))
+    (front ++ b ∷ [], quoted_push b q h, e ∙ sym (append_assoc front (b ∷ []) left))

@@ -30,11 +30,6 @@ impl Part {
     pub fn text<'a>(&self, file: &'a [u8]) -> Option<&'a [u8]>
         ensures { MatchOption result (self.now.start ≤ self.now.end → self.now.end ≤ length file.now → ⊥) (λ t. t.now ≡ between self.now.start self.now.end file.now) }
     {
-        let start = self.start;
-        let end = self.end;
-        if start > end || end > file.len() {
-            return None;
-        }
-        Some(&file[start..end])
+        file.get(self.start..self.end)
     }
 }

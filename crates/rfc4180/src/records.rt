@@ -2,7 +2,7 @@ ghost use Rattle.std.specs.Prelude.{◌≡◌, ◌+◌, ◌<◌, ◌≤◌, min,
 ghost use Rattle.rfc4180.specs.Records.{RecordAt, BrokenRecord, Numbered};
 
 use crate::part::{Broken, Part, Record};
-use crate::scan::{After, read_field};
+use crate::scan::{After, Found, read_field};
 
 // The record that starts at a place; a place past the end of the file is its end.
 pub fn next_record(file: &[u8], at: usize) -> Result<Record, Broken>
@@ -13,21 +13,17 @@ pub fn next_record(file: &[u8], at: usize) -> Result<Record, Broken>
     let start = at.min(file.len());
     let mut from = start;
     let mut fields: u32 = 1;
-    'fields: loop {
-        let found = match read_field(file, from) {
-            Ok(found) => found,
-            Err(end) => return Err(Broken {
-                field: fields,
-                start: from,
-                end,
-            }),
-        };
-        let end = found.end;
-        let next = match found.after {
+    loop {
+        let Found { end, after, .. } = read_field(file, from).map_err(|end| Broken {
+            field: fields,
+            start: from,
+            end,
+        })?;
+        let next = match after {
             After::Comma => {
                 from = end + 1;
                 fields = fields.saturating_add(1);
-                continue 'fields;
+                continue;
             }
             After::LineEnd => end + 2,
             After::FileEnd => end,
@@ -46,22 +42,18 @@ pub fn field(file: &[u8], record: &Record, number: u32) -> Option<Part>
     ensures finds { MatchOption result ((p : Part) → Numbered file.now (min «record».now.start (length file.now)) number p → ⊥) (λ p. Numbered file.now (min «record».now.start (length file.now)) number p) }
     ensures within { IfSome result (λ p. (p.start ≤ p.end) × (p.end ≤ length file.now)) }
 {
-    if number == 0 {
-        return None;
+    let skipped = number.checked_sub(1)?;
+    let mut from = record.start.min(file.len());
+    for _ in 0..skipped {
+        let Found {
+            end,
+            after: After::Comma,
+            ..
+        } = read_field(file, from).ok()?
+        else {
+            return None;
+        };
+        from = end + 1;
     }
-    let start = record.start.min(file.len());
-    let mut from = start;
-    'skipped: for _ in 1..number {
-        match read_field(file, from) {
-            Ok(found) => match found.after {
-                After::Comma => from = found.end + 1,
-                After::LineEnd | After::FileEnd => return None,
-            },
-            Err(_) => return None,
-        }
-    }
-    match read_field(file, from) {
-        Ok(found) => Some(found.part),
-        Err(_) => None,
-    }
+    Some(read_field(file, from).ok()?.part)
 }

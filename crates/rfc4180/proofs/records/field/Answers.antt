@@ -1,62 +1,37 @@
-use Rattle.std.proofs.Common.{◌+◌, min, length, refl, arith, rules}
+use Rattle.std.proofs.Common.{◌≡◌, arith, rules}
 use Rattle.rfc4180.specs.Records.{start}
-use Rattle.rfc4180.proofs.Counting.{before_more, stuck_last, stuck_broken, missing_broken, numbered}
+use Rattle.rfc4180.specs.declared.scan.After.TheVariants.{Comma}
+use Rattle.rfc4180.proofs.Counting.{before_more, found_here, none_here, other_after, stuck, missing}
 use Rattle.rfc4180.proofs.records.field.Goals as goal
 
-pub skipped-init : goal.skipped-init
-skipped-init c = (omega (arith, c.min-start.ensures), (0, refl, start))
+pub loop-init : goal.loop-init
+loop-init c = (omega arith, rw c.min-from.ensures start)
 
-pub returns-in-LineEnd : goal.returns-in-LineEnd
-returns-in-LineEnd c = record {
-  finds = stuck_last c.args.file.now c.min-start.result (min c.args.record.now.start (length c.args.file.now)) c.skipped.invariant.1.0 c.skipped.from c.args.number c.in-Ok.found
-      c.min-start.ensures
-      c.skipped.invariant.0
-      c.skipped.invariant.1.2
-      c.in-Ok.ensures
-      c.in-LineEnd.is
-      (omega (arith, c.skipped.invariant.1.1));
-  within = tt;
-}
+pub returns-in_err-end-clause-finds : goal.returns-in_err-end-clause-finds
+returns-in_err-end-clause-finds c =
+    rw c.from_residual-in_err-end.ensures
+    (stuck c.args.file.now _ c.loop.counter c.loop.from c.args.number c.loop.invariant.1
+    (λ f h _. none_here c.args.file.now c.loop.from c.read_field.result c.loop.invariant.0 c.read_field.ensures c.in_err-end.ensures.value f h)
+    (omega arith))
 
-pub returns-in-Err : goal.returns-in-Err
-returns-in-Err c = record {
-  finds = stuck_broken c.args.file.now c.min-start.result (min c.args.record.now.start (length c.args.file.now)) c.skipped.invariant.1.0 c.skipped.from c.args.number c.in-Err.field-0
-      c.min-start.ensures
-      c.skipped.invariant.0
-      c.skipped.invariant.1.2
-      c.in-Err.ensures
-      (omega (arith, c.skipped.invariant.1.1));
-  within = tt;
-}
+pub returns-in_default : goal.returns-in_default
+returns-in_default c =
+    let h = found_here c.args.file.now c.loop.from c.read_field.result c.in_ok-end.field-0 c.loop.invariant.0 c.read_field.ensures c.in_ok-end.ensures.value in
+    let u : c.in_ok-end.field-0.after ≡ Comma → ⊥ = search rules in
+    record {
+      finds = stuck c.args.file.now _ c.loop.counter c.loop.from c.args.number c.loop.invariant.1 (other_after c.args.file.now c.loop.from c.in_ok-end.field-0 h u) (omega arith);
+      within = tt;
+    }
 
-pub skipped-preserved : goal.skipped-preserved
-skipped-preserved c = (
+pub loop-preserved : goal.loop-preserved
+loop-preserved c = (
   search rules,
-  (
-    c.skipped.invariant.1.0 + 1,
-    omega (arith, c.skipped.invariant.1.1),
-    before_more c.args.file.now c.min-start.result c.skipped.invariant.1.0 c.skipped.from c.in-Ok.found c.skipped.invariant.0 c.skipped.invariant.1.2 c.in-Ok.ensures c.in-Comma.is,
-  ),
+  before_more c.args.file.now _ c.loop.counter c.loop.from c.in_ok-end.field-0 c.loop.invariant.0 c.loop.invariant.1 (search rules) (search rules),
 )
 
-pub returns-in-Ok-read_field : goal.returns-in-Ok-read_field
-returns-in-Ok-read_field c = record {
-  finds = numbered c.args.file.now c.min-start.result (min c.args.record.now.start (length c.args.file.now)) c.skipped.invariant.1.0 c.skipped.from c.args.number c.in-Ok-read_field.found
-      c.min-start.ensures
-      c.skipped.invariant.0
-      c.skipped.invariant.1.2
-      c.in-Ok-read_field.ensures
-      (omega (arith, c.skipped.invariant.1.1));
-  within = search rules;
-}
-
-pub returns-in-Err-read_field : goal.returns-in-Err-read_field
-returns-in-Err-read_field c = record {
-  finds = missing_broken c.args.file.now c.min-start.result (min c.args.record.now.start (length c.args.file.now)) c.skipped.invariant.1.0 c.skipped.from c.args.number c.in-Err-read_field.field-0
-      c.min-start.ensures
-      c.skipped.invariant.0
-      c.skipped.invariant.1.2
-      c.in-Err-read_field.ensures
-      (omega (arith, c.skipped.invariant.1.1));
-  within = tt;
-}
+pub returns-in_err-ok-clause-finds : goal.returns-in_err-ok-clause-finds
+returns-in_err-ok-clause-finds c =
+    rw c.from_residual-in_err-ok.ensures
+    (missing c.args.file.now _ c.loop.counter c.loop.from c.args.number c.loop.invariant.1
+    (none_here c.args.file.now c.loop.from c.read_field-2.result c.loop.invariant.0 c.read_field-2.ensures c.in_err-ok.ensures.value)
+    (omega arith))

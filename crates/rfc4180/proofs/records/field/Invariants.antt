@@ -1,6 +1,6 @@
-use Rattle.std.proofs.Common.{◌≡◌, ℕ, ◌+◌, ◌≤◌, length}
+use Rattle.std.proofs.Common.{◌≤◌, min, length}
 use Rattle.rfc4180.specs.Records.{Before}
 use Rattle.rfc4180.proofs.records.field.Given as goal
 
-abbrev pub invariant-skipped : goal.invariant-skipped
-invariant-skipped l = (l.from ≤ length l.file) × ((n : ℕ) × (l.counter ≡ n + 1) × Before l.file l.start n l.from)
+abbrev pub invariant-loop : goal.invariant-loop
+invariant-loop l = (l.from ≤ length l.file) × Before l.file (min l.record.start (length l.file)) l.counter l.from
