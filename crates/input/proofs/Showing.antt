@@ -1,5 +1,6 @@
 -- Where a record starts, and that it starts nowhere else.
-use Rattle.std.proofs.Common.{◌≡◌, ℕ, ◌+◌, ◌<◌, ◌≤◌, min, List, length, Some, None, Option, refl, subst, ⊎_elim, add-one, arith, MatchOption}
+use Rattle.std.proofs.Common.{◌≡◌, ℕ, ◌+◌, ◌<◌, ◌≤◌, min, List, length, Some, None, Ok, Err, Option, Result, refl, subst, ⊎_elim, add-one, arith, MatchOption, MatchResult}
+use Rattle.std.specs.Result.{result_ok, result_err}
 use Rattle.std.proofs.lemmas.Bool.{cases_lt}
 use Rattle.rfc4180.proofs.Once.{next_once, whole_broken}
 use Rattle.rfc4180.specs.Records.{Numbered, RecordAt, BrokenRecord}
@@ -34,12 +35,12 @@ start_through F k _ _ (later {n = n} {at = at} r b h m) l =
     (λ i. let e : n ≡ k = omega arith in (at, r, subst (λ z. RecordStart F z at) e b, h, m))
     (cases_lt k n)
 
--- where a record is broken, no later one starts
-pub start_broken : (F : List ℕ) (k at n : ℕ) (b : Broken) → RecordStart F k at → BrokenRecord F (min at (length F)) b → k < n → (x : ℕ) → RecordStart F n x → ⊥
-start_broken F k at n b h u l x d =
+-- where no whole record is, no later one starts
+pub start_broken : (F : List ℕ) (k at n : ℕ) → RecordStart F k at → ((r : Record) → RecordAt F (min at (length F)) r → ⊥) → k < n → (x : ℕ) → RecordStart F n x → ⊥
+start_broken F k at n h u l x d =
     let t : (a : ℕ) × (r : Record) × RecordStart F k a × RecordAt F (min a (length F)) r × (r.next < length F) = start_through F k n x d l in
     let e : t.0 ≡ at = start_once F k t.0 at t.2 h in
-    whole_broken F (min at (length F)) t.1 b (subst (λ z. RecordAt F (min z (length F)) t.1) e t.3) u
+    u t.1 (subst (λ z. RecordAt F (min z (length F)) t.1) e t.3)
 
 -- where the file ends, no later one starts
 pub start_ended : (F : List ℕ) (k at n : ℕ) (r : Record) → RecordStart F k at → RecordAt F (min at (length F)) r → length F ≤ r.next → k < n → (x : ℕ) → RecordStart F n x → ⊥
@@ -70,3 +71,15 @@ shows_field val F cause n at number None e s u = λ t h. elim h [
   | of_field {at = a} x y z ↦ u t (subst (λ k. FieldText F k number t) (start_once F n a at y s) z)
 ]
 shows_field val F cause n at number (Some x) e s u = of_field e s u
+
+-- what the reader of a record answers
+abbrev pub Read : List ℕ → ℕ → Result Record Broken → Type 0
+Read F m r = MatchResult r (λ rec. RecordAt F m rec) (λ b. BrokenRecord F m b)
+
+pub none_whole : (F : List ℕ) (m : ℕ) (r : Result Record Broken) → Read F m r → None ≡ result_ok r → (rec : Record) → RecordAt F m rec → ⊥
+none_whole F m (Ok x) h e rec k = let z : ◌≡◌ {A = ℕ} 0 1 = cc in omega arith
+none_whole F m (Err b) h e rec k = whole_broken F m rec b k h
+
+pub none_broken : (F : List ℕ) (m : ℕ) (r : Result Record Broken) → Read F m r → None ≡ result_err r → (b : Broken) → BrokenRecord F m b → ⊥
+none_broken F m (Ok x) h e b k = whole_broken F m x b h k
+none_broken F m (Err x) h e b k = let z : ◌≡◌ {A = ℕ} 0 1 = cc in omega arith

@@ -23,8 +23,8 @@ abbrev pub fault_of : Line → Layer → Refusal → ℕ → Fault
 fault_of line l c n = record { layer = l; cause = c; file = line.source; «record» = line.number; field = n }
 
 -- the number in a field, or the fault of a field that has none
-abbrev pub NumberIn : List ℕ → Line → ℕ → Result ℕ Fault → Type 0
-NumberIn file line n (Ok v) = (text : List ℕ) × Cell file line.«record» n text × Spells text v
-NumberIn file line n (Err e) =
+abbrev pub NumberIn : Line → ℕ → Result ℕ Fault → Type 0
+NumberIn line n (Ok v) = (text : List ℕ) × Cell line.file.now line.«record» n text × Spells text v
+NumberIn line n (Err e) =
     (e ≡ fault_of line Numbers NotANumber n)
-    × ((text : List ℕ) (v : ℕ) → Cell file line.«record» n text → Spells text v → ⊥)
+    × ((text : List ℕ) (v : ℕ) → Cell line.file.now line.«record» n text → Spells text v → ⊥)

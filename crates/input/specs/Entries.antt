@@ -18,30 +18,30 @@ word KindSwitch = codes "switch"
 word KindFrame = codes "frame"
 
 -- the kind of a record
-abbrev pub KindIn : List ℕ → Line → Result Kind Fault → Type 0
-KindIn file line (Ok k) = Cell file line.«record» 1 (word k)
-KindIn file line (Err e) = (e ≡ fault_of line Numbers UnknownKind 1) × ((k : Kind) → Cell file line.«record» 1 (word k) → ⊥)
+abbrev pub KindIn : Line → Result Kind Fault → Type 0
+KindIn line (Ok k) = Cell line.file.now line.«record» 1 (word k)
+KindIn line (Err e) = (e ≡ fault_of line Numbers UnknownKind 1) × ((k : Kind) → Cell line.file.now line.«record» 1 (word k) → ⊥)
 
 -- a field that is left empty
-abbrev pub EmptyIn : List ℕ → Line → ℕ → Result (Unit {0}) Fault → Type 0
-EmptyIn file line n (Ok _) = Cell file line.«record» n []
-EmptyIn file line n (Err e) = (e ≡ fault_of line Numbers FrameFieldFilled n) × (Cell file line.«record» n [] → ⊥)
+abbrev pub EmptyIn : Line → ℕ → Result (Unit {0}) Fault → Type 0
+EmptyIn line n (Ok _) = Cell line.file.now line.«record» n []
+EmptyIn line n (Err e) = (e ≡ fault_of line Numbers FrameFieldFilled n) × (Cell line.file.now line.«record» n [] → ⊥)
 
 -- what is wrong with the fields of a record
-pub data FieldFault (file : List ℕ) (line : Line) (e : Fault) : Type 0 where
-  unknown : KindIn file line (Err e) → FieldFault file line e
-  in_mode : KindIn file line (Ok KindMode) → Leftmost file line 2 4 e → FieldFault file line e
-  in_switch : KindIn file line (Ok KindSwitch) → Leftmost file line 2 4 e → FieldFault file line e
-  third_filled : KindIn file line (Ok KindFrame) → EmptyIn file line 3 (Err e) → FieldFault file line e
-  fourth_filled : KindIn file line (Ok KindFrame) → EmptyIn file line 3 (Ok tt) → EmptyIn file line 4 (Err e) → FieldFault file line e
-  in_frame : KindIn file line (Ok KindFrame) → EmptyIn file line 3 (Ok tt) → EmptyIn file line 4 (Ok tt) → NumberIn file line 2 (Err e) → FieldFault file line e
+pub data FieldFault (line : Line) (e : Fault) : Type 0 where
+  unknown : KindIn line (Err e) → FieldFault line e
+  in_mode : KindIn line (Ok KindMode) → Leftmost line 2 4 e → FieldFault line e
+  in_switch : KindIn line (Ok KindSwitch) → Leftmost line 2 4 e → FieldFault line e
+  third_filled : KindIn line (Ok KindFrame) → EmptyIn line 3 (Err e) → FieldFault line e
+  fourth_filled : KindIn line (Ok KindFrame) → EmptyIn line 3 (Ok tt) → EmptyIn line 4 (Err e) → FieldFault line e
+  in_frame : KindIn line (Ok KindFrame) → EmptyIn line 3 (Ok tt) → EmptyIn line 4 (Ok tt) → NumberIn line 2 (Err e) → FieldFault line e
 
 -- the entry of a record
-abbrev pub EntryIn : List ℕ → Line → Result Entry Fault → Type 0
-EntryIn file line (Ok (Mode number speed power)) =
-    KindIn file line (Ok KindMode) × NumberIn file line 2 (Ok number) × NumberIn file line 3 (Ok speed) × NumberIn file line 4 (Ok power)
-EntryIn file line (Ok (Switch from to time)) =
-    KindIn file line (Ok KindSwitch) × NumberIn file line 2 (Ok from) × NumberIn file line 3 (Ok to) × NumberIn file line 4 (Ok time)
-EntryIn file line (Ok (Frame length)) =
-    KindIn file line (Ok KindFrame) × EmptyIn file line 3 (Ok tt) × EmptyIn file line 4 (Ok tt) × NumberIn file line 2 (Ok length)
-EntryIn file line (Err e) = FieldFault file line e
+abbrev pub EntryIn : Line → Result Entry Fault → Type 0
+EntryIn line (Ok (Mode number speed power)) =
+    KindIn line (Ok KindMode) × NumberIn line 2 (Ok number) × NumberIn line 3 (Ok speed) × NumberIn line 4 (Ok power)
+EntryIn line (Ok (Switch from to time)) =
+    KindIn line (Ok KindSwitch) × NumberIn line 2 (Ok from) × NumberIn line 3 (Ok to) × NumberIn line 4 (Ok time)
+EntryIn line (Ok (Frame length)) =
+    KindIn line (Ok KindFrame) × EmptyIn line 3 (Ok tt) × EmptyIn line 4 (Ok tt) × NumberIn line 2 (Ok length)
+EntryIn line (Err e) = FieldFault line e

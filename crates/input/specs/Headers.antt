@@ -1,5 +1,5 @@
 -- The columns of the two files, and their records.
-use Rattle.std.specs.Prelude.{◌≡◌, ℕ, ◌<◌, ◌≤◌, min, ◌≢◌, List, length, Ok, Err, codes, Result}
+use Rattle.std.specs.Prelude.{◌≡◌, ℕ, ◌<◌, ◌≤◌, min, ◌≢◌, List, [], ◌∷◌, length, All, Ok, Err, codes, Result}
 use Rattle.rfc4180.specs.Records.{RecordAt, BrokenRecord}
 use Rattle.rfc4180.specs.declared.part.Broken.{Broken}
 use Rattle.rfc4180.specs.declared.part.Record.{Record}
@@ -11,22 +11,22 @@ use Rattle.input.specs.declared.fault.Source.{Source}
 use Rattle.input.specs.declared.fault.Source.TheVariants.{Processor, Tasks}
 use Rattle.input.specs.declared.line.Line.{Line}
 
+-- the columns of a file: the number of each, and the name that heads it
+abbrev pub columns_of : Source → List (ℕ × List ℕ)
+columns_of Processor = (1, codes "kind") ∷ (2, codes "a") ∷ (3, codes "b") ∷ (4, codes "c") ∷ []
+columns_of Tasks = (1, codes "rank") ∷ (2, codes "cycles") ∷ (3, codes "fixed") ∷ (4, codes "period") ∷ (5, codes "deadline") ∷ []
+
 -- how many fields the records of a file have
 abbrev pub width_of : Source → ℕ
-width_of Processor = 4
-width_of Tasks = 5
+width_of s = length (columns_of s)
 
--- the record that heads a file
+-- the record that heads a file: each field has the name of its column
 abbrev pub Heads : Source → List ℕ → Record → Type 0
-Heads Processor file r =
-    (r.fields ≡ 4) × Cell file r 1 (codes "kind") × Cell file r 2 (codes "a") × Cell file r 3 (codes "b") × Cell file r 4 (codes "c")
-Heads Tasks file r =
-    (r.fields ≡ 5) × Cell file r 1 (codes "rank") × Cell file r 2 (codes "cycles") × Cell file r 3 (codes "fixed")
-    × Cell file r 4 (codes "period") × Cell file r 5 (codes "deadline")
+Heads s file r = (r.fields ≡ width_of s) × All (λ column. Cell file r column.0 column.1) (columns_of s)
 
 -- the record of a number that starts at a place, by the grammar alone
 abbrev pub LineAt : List ℕ → Source → ℕ → ℕ → Result Line Fault → Type 0
-LineAt file s n at (Ok line) = (line.source ≡ s) × (line.number ≡ n) × RecordAt file (min at (length file)) line.«record»
+LineAt file s n at (Ok line) = (line.file.now ≡ file) × (line.source ≡ s) × (line.number ≡ n) × RecordAt file (min at (length file)) line.«record»
 LineAt file s n at (Err e) =
     (b : Broken) × BrokenRecord file (min at (length file)) b
     × (e ≡ record { layer = Records; cause = NotCsv; file = s; «record» = n; field = b.field })

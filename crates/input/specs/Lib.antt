@@ -5,3 +5,4 @@ pub mod Numbers
 pub mod ProcessorFiles
 pub mod Showing
 pub mod TaskFiles
+pub mod Walk

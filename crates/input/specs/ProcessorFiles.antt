@@ -56,41 +56,51 @@ field_refused refusal.LengthsDiffer = 0
 field_refused refusal.NoRoom = 0
 field_refused refusal.Memory = 0
 
+-- what a table lists
+pub record Listed : Type 0 where
+  pub modes : List Mode
+  pub switches : List Switch
+  pub frames : List ℕ
+
+abbrev pub listed : ProcessorTable → Listed
+listed t = record { modes = vec_items t.modes; switches = vec_items t.switches; frames = vec_items t.frames }
+
+-- an empty table
+abbrev pub nothing : Listed
+nothing = record { modes = []; switches = []; frames = [] }
+
 -- what the table answers to an entry
-abbrev pub entry_answer : Entry → List Mode → List Switch → List ℕ → Result (Unit {0}) Refusal
-entry_answer (AMode number speed power) ms ss ps = mode_answer ms number speed power
-entry_answer (ASwitch a b time) ms ss ps = switch_answer ms ss a b time
-entry_answer (AFrame p) ms ss ps = frame_answer ps p
+abbrev pub entry_answer : Entry → Listed → Result (Unit {0}) Refusal
+entry_answer (AMode number speed power) t = mode_answer t.modes number speed power
+entry_answer (ASwitch a b time) t = switch_answer t.modes t.switches a b time
+entry_answer (AFrame p) t = frame_answer t.frames p
 
 -- the table with one entry more: what it listed, and what it lists then
-abbrev pub Entered : Entry → List Mode → List Switch → List ℕ → List Mode → List Switch → List ℕ → Type 0
-Entered (AMode number speed power) ms ss ps ms2 ss2 ps2 = ListsMode ms ms2 number speed power × (ss2 ≡ ss) × (ps2 ≡ ps)
-Entered (ASwitch a b time) ms ss ps ms2 ss2 ps2 = ListsSwitch ss ss2 a b time × (ms2 ≡ ms) × (ps2 ≡ ps)
-Entered (AFrame p) ms ss ps ms2 ss2 ps2 = (ps2 ≡ ps ++ p ∷ []) × (ms2 ≡ ms) × (ss2 ≡ ss)
+abbrev pub Entered : Entry → Listed → Listed → Type 0
+Entered (AMode number speed power) t u = ListsMode t.modes u.modes number speed power × (u.switches ≡ t.switches) × (u.frames ≡ t.frames)
+Entered (ASwitch a b time) t u = ListsSwitch t.switches u.switches a b time × (u.modes ≡ t.modes) × (u.frames ≡ t.frames)
+Entered (AFrame p) t u = (u.frames ≡ t.frames ++ p ∷ []) × (u.modes ≡ t.modes) × (u.switches ≡ t.switches)
 
 -- the table refuses the entry of a record
-abbrev pub TableFault : Line → Entry → List Mode → List Switch → List ℕ → Fault → Type 0
-TableFault line x ms ss ps e =
-    (c : Refusal) × (entry_answer x ms ss ps ≡ Err c) × (e ≡ fault_of line Table c (field_refused c))
+abbrev pub TableFault : Line → Entry → Listed → Fault → Type 0
+TableFault line x t e = (c : Refusal) × (entry_answer x t ≡ Err c) × (e ≡ fault_of line Table c (field_refused c))
 
 -- so many records after the header are read, up to a place, and the table lists their entries
-pub data EntriesUpTo (file : List ℕ) : ℕ → ℕ → List Mode → List Switch → List ℕ → Type 0 where
-  header : {at : ℕ} → HeaderIn file Processor (Ok at) → EntriesUpTo file 0 at [] [] []
-  entry : {n at : ℕ} {ms ms2 : List Mode} {ss ss2 : List Switch} {ps ps2 : List ℕ} (line : Line) (e : Entry) → EntriesUpTo file n at ms ss ps → at < length file → EntryAt file Processor (n + 1) at (Ok line) → EntryIn file line (Ok e) → entry_answer e ms ss ps ≡ Ok tt → Entered e ms ss ps ms2 ss2 ps2 → EntriesUpTo file (n + 1) line.«record».next ms2 ss2 ps2
+pub data EntriesUpTo (file : List ℕ) : ℕ → ℕ → Listed → Type 0 where
+  header : {at : ℕ} → HeaderIn file Processor (Ok at) → EntriesUpTo file 0 at nothing
+  entry : {n at : ℕ} {t u : Listed} (line : Line) (e : Entry) → EntriesUpTo file n at t → at < length file → EntryAt file Processor (n + 1) at (Ok line) → EntryIn line (Ok e) → entry_answer e t ≡ Ok tt → Entered e t u → EntriesUpTo file (n + 1) line.«record».next u
 
 -- the first fault of the file
 pub data ProcessorFault (file : List ℕ) (e : Fault) : Type 0 where
   in_header : HeaderIn file Processor (Err e) → ProcessorFault file e
-  in_record : {n at : ℕ} {ms : List Mode} {ss : List Switch} {ps : List ℕ} → EntriesUpTo file n at ms ss ps → at < length file → EntryAt file Processor (n + 1) at (Err e) → ProcessorFault file e
-  in_field : {n at : ℕ} {ms : List Mode} {ss : List Switch} {ps : List ℕ} (line : Line) → EntriesUpTo file n at ms ss ps → at < length file → EntryAt file Processor (n + 1) at (Ok line) → EntryIn file line (Err e) → ProcessorFault file e
-  in_table : {n at : ℕ} {ms : List Mode} {ss : List Switch} {ps : List ℕ} (line : Line) (x : Entry) → EntriesUpTo file n at ms ss ps → at < length file → EntryAt file Processor (n + 1) at (Ok line) → EntryIn file line (Ok x) → TableFault line x ms ss ps e → ProcessorFault file e
-  no_mode : {n at : ℕ} {ms : List Mode} {ss : List Switch} {ps : List ℕ} → EntriesUpTo file n at ms ss ps → length file ≤ at → length ms ≡ 0 → e ≡ record { layer = Table; cause = refusal.NoMode; file = Processor; «record» = 0; field = 0 } → ProcessorFault file e
+  in_record : {n at : ℕ} {t : Listed} → EntriesUpTo file n at t → at < length file → EntryAt file Processor (n + 1) at (Err e) → ProcessorFault file e
+  in_field : {n at : ℕ} {t : Listed} (line : Line) → EntriesUpTo file n at t → at < length file → EntryAt file Processor (n + 1) at (Ok line) → EntryIn line (Err e) → ProcessorFault file e
+  in_table : {n at : ℕ} {t : Listed} (line : Line) (x : Entry) → EntriesUpTo file n at t → at < length file → EntryAt file Processor (n + 1) at (Ok line) → EntryIn line (Ok x) → TableFault line x t e → ProcessorFault file e
+  no_mode : {n at : ℕ} {t : Listed} → EntriesUpTo file n at t → length file ≤ at → length t.modes ≡ 0 → e ≡ record { layer = Table; cause = refusal.NoMode; file = Processor; «record» = 0; field = 0 } → ProcessorFault file e
 
 -- the whole file is read, and the table lists its entries, at least one mode among them
 abbrev pub EntriesRead : List ℕ → ProcessorTable → Type 0
-EntriesRead file t =
-    (n : ℕ) × (at : ℕ) × EntriesUpTo file n at (vec_items t.modes) (vec_items t.switches) (vec_items t.frames)
-    × (length file ≤ at) × (0 < length (vec_items t.modes))
+EntriesRead file t = (n : ℕ) × (at : ℕ) × EntriesUpTo file n at (listed t) × (length file ≤ at) × (0 < length (vec_items t.modes))
 
 abbrev pub Blamed : List ℕ → Unread → Type 0
 Blamed file (Faulty e) = ProcessorFault file e

@@ -10,34 +10,34 @@ use Rattle.input.specs.declared.fault.Unread.TheVariants.{Faulty, Memory}
 use Rattle.input.specs.declared.line.Line.{Line}
 
 -- each field from one place to before another holds a number
-abbrev pub NumbersIn : List ℕ → Line → ℕ → ℕ → Type 0
-NumbersIn file line first n = (k : ℕ) → first ≤ k → k < n → (v : ℕ) × NumberIn file line k (Ok v)
+abbrev pub NumbersIn : Line → ℕ → ℕ → Type 0
+NumbersIn line first n = (k : ℕ) → first ≤ k → k < n → (v : ℕ) × NumberIn line k (Ok v)
 
 -- the leftmost field of some that holds no number
-pub record Leftmost (file : List ℕ) (line : Line) (first last : ℕ) (e : Fault) : Type 0 where
+pub record Leftmost (line : Line) (first last : ℕ) (e : Fault) : Type 0 where
   pub at : ℕ
   pub low : first ≤ at
   pub high : at ≤ last
-  pub wrong : NumberIn file line at (Err e)
-  pub earlier : NumbersIn file line first at
+  pub wrong : NumberIn line at (Err e)
+  pub earlier : NumbersIn line first at
 
 -- the figures of a record, in the order of its fields
-abbrev pub FiguresIn : List ℕ → Line → Result Figures Fault → Type 0
-FiguresIn file line (Ok f) =
-    NumberIn file line 1 (Ok f.rank) × NumberIn file line 2 (Ok f.cycles) × NumberIn file line 3 (Ok f.fixed)
-    × NumberIn file line 4 (Ok f.period) × NumberIn file line 5 (Ok f.deadline)
-FiguresIn file line (Err e) = Leftmost file line 1 5 e
+abbrev pub FiguresIn : Line → Result Figures Fault → Type 0
+FiguresIn line (Ok f) =
+    NumberIn line 1 (Ok f.rank) × NumberIn line 2 (Ok f.cycles) × NumberIn line 3 (Ok f.fixed)
+    × NumberIn line 4 (Ok f.period) × NumberIn line 5 (Ok f.deadline)
+FiguresIn line (Err e) = Leftmost line 1 5 e
 
 -- so many records after the header are read, as these figures, up to a place
 pub data TasksUpTo (file : List ℕ) : ℕ → ℕ → List Figures → Type 0 where
   header : {at : ℕ} → HeaderIn file Tasks (Ok at) → TasksUpTo file 0 at []
-  entry : {n at : ℕ} {ts : List Figures} (line : Line) (f : Figures) → TasksUpTo file n at ts → at < length file → EntryAt file Tasks (n + 1) at (Ok line) → FiguresIn file line (Ok f) → TasksUpTo file (n + 1) line.«record».next (ts ++ f ∷ [])
+  entry : {n at : ℕ} {ts : List Figures} (line : Line) (f : Figures) → TasksUpTo file n at ts → at < length file → EntryAt file Tasks (n + 1) at (Ok line) → FiguresIn line (Ok f) → TasksUpTo file (n + 1) line.«record».next (ts ++ f ∷ [])
 
 -- the first fault of the file
 pub data TaskFault (file : List ℕ) (e : Fault) : Type 0 where
   in_header : HeaderIn file Tasks (Err e) → TaskFault file e
   in_entry : {n at : ℕ} {ts : List Figures} → TasksUpTo file n at ts → at < length file → EntryAt file Tasks (n + 1) at (Err e) → TaskFault file e
-  in_figure : {n at : ℕ} {ts : List Figures} (line : Line) → TasksUpTo file n at ts → at < length file → EntryAt file Tasks (n + 1) at (Ok line) → FiguresIn file line (Err e) → TaskFault file e
+  in_figure : {n at : ℕ} {ts : List Figures} (line : Line) → TasksUpTo file n at ts → at < length file → EntryAt file Tasks (n + 1) at (Ok line) → FiguresIn line (Err e) → TaskFault file e
 
 -- what the reading of the file answers
 abbrev pub TasksRead : List ℕ → Result (List Figures) Unread → Type 0

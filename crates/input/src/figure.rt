@@ -12,14 +12,11 @@ pub fn figure(text: &[u8]) -> Option<u32>
         return None;
     }
     let mut value: u64 = 0;
-    'digits: for byte in text {
-        match byte {
-            b'0'..=b'9' => value = 10 * value + u64::from(*byte - b'0'),
-            _ => return None,
+    for byte in text {
+        if !byte.is_ascii_digit() {
+            return None;
         }
+        value = 10 * value + u64::from(*byte - b'0');
     }
-    if value > u64::from(u32::MAX) {
-        return None;
-    }
-    Some(value as u32)
+    u32::try_from(value).ok()
 }

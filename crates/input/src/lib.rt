@@ -1,5 +1,6 @@
 #![tactic(auto)]
 
+mod entries;
 pub mod entry;
 pub mod fault;
 pub mod figure;

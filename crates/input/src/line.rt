@@ -1,7 +1,6 @@
 ghost use Rattle.std.specs.Prelude.{◌≡◌, ℕ, ◌+◌, ◌<◌, ◌≤◌, List, length, IfOk, MatchBool, MatchOption};
 ghost use Rattle.input.specs.Cells.{Cell, fault_of, NumberIn};
-ghost use Rattle.input.specs.Headers.{width_of, Heads, LineAt, HeaderIn, EntryAt};
-ghost use Rattle.input.specs.declared.fault.Source.TheVariants.{Processor, Tasks};
+ghost use Rattle.input.specs.Headers.{Heads, LineAt, HeaderIn, EntryAt};
 
 use crate::fault::{Fault, Layer, Source};
 use crate::figure::figure;
@@ -13,14 +12,15 @@ use rfc4180::records::{field, next_record};
 pub const LONGEST_FILE: usize = 65_536;
 
 // A record of one of the files, numbered from the header, which is 0.
-#[derive(Clone, Copy)]
-pub struct Line {
+#[derive(Clone, Copy, Debug)]
+pub struct Line<'a> {
+    pub file: &'a [u8],
     pub source: Source,
     pub number: u32,
     pub record: Record,
 }
 
-impl Line {
+impl<'a> Line<'a> {
     // A fault in a field of this record.
     pub fn fault(&self, layer: Layer, cause: Refusal, field: u32) -> Fault
         ensures { result ≡ fault_of self.now layer cause field }
@@ -35,103 +35,59 @@ impl Line {
     }
 
     // The text of a field.
-    pub fn text<'a>(&self, file: &'a [u8], number: u32) -> Option<&'a [u8]>
-        ensures { MatchOption result ((t : List ℕ) → Cell file.now self.now.«record» number t → ⊥) (λ t. Cell file.now self.now.«record» number t.now) }
+    pub fn text(&self, number: u32) -> Option<&'a [u8]>
+        ensures { MatchOption result ((t : List ℕ) → Cell self.now.file.now self.now.«record» number t → ⊥) (λ t. Cell self.now.file.now self.now.«record» number t.now) }
     {
-        match field(file, &self.record, number) {
-            Some(part) => part.text(file),
-            None => None,
-        }
+        field(self.file, &self.record, number)?.text(self.file)
     }
 
     // The number in a field.
-    pub fn number_in(&self, file: &[u8], field: u32) -> Result<u32, Fault>
-        ensures { NumberIn file.now self.now field result }
+    pub fn number_in(&self, field: u32) -> Result<u32, Fault>
+        ensures { NumberIn self.now field result }
     {
-        let value = match self.text(file, field) {
-            Some(text) => figure(text),
-            None => None,
-        };
-        match value {
-            Some(value) => Ok(value),
-            None => Err(self.fault(Layer::Numbers, Refusal::NotANumber, field)),
-        }
+        let fault = self.fault(Layer::Numbers, Refusal::NotANumber, field);
+        self.text(field).and_then(figure).ok_or(fault)
     }
 
     // Whether a field has this text.
-    pub fn reads(&self, file: &[u8], number: u32, name: &[u8]) -> bool
-        ensures { MatchBool result (Cell file.now self.now.«record» number name.now) (Cell file.now self.now.«record» number name.now → ⊥) }
+    pub fn reads(&self, number: u32, name: &[u8]) -> bool
+        ensures { MatchBool result (Cell self.now.file.now self.now.«record» number name.now) (Cell self.now.file.now self.now.«record» number name.now → ⊥) }
     {
-        match self.text(file, number) {
-            Some(text) => text == name,
-            None => false,
-        }
-    }
-
-    // Whether the record has the fields that head the processor's file.
-    fn heads_processor(&self, file: &[u8]) -> bool
-        ensures { MatchBool result (Heads Processor file.now self.now.«record») (Heads Processor file.now self.now.«record» → ⊥) }
-    {
-        self.record.fields == 4
-            && self.reads(file, 1, b"kind")
-            && self.reads(file, 2, b"a")
-            && self.reads(file, 3, b"b")
-            && self.reads(file, 4, b"c")
-    }
-
-    // Whether the record has the fields that head the file of tasks.
-    fn heads_tasks(&self, file: &[u8]) -> bool
-        ensures { MatchBool result (Heads Tasks file.now self.now.«record») (Heads Tasks file.now self.now.«record» → ⊥) }
-    {
-        self.record.fields == 5
-            && self.reads(file, 1, b"rank")
-            && self.reads(file, 2, b"cycles")
-            && self.reads(file, 3, b"fixed")
-            && self.reads(file, 4, b"period")
-            && self.reads(file, 5, b"deadline")
+        self.text(number).is_some_and(|text| text == name)
     }
 
     // Whether the record has the fields that head its file.
-    fn is_header(&self, file: &[u8]) -> bool
-        ensures { MatchBool result (Heads self.now.source file.now self.now.«record») (Heads self.now.source file.now self.now.«record» → ⊥) }
+    fn is_header(&self) -> bool
+        ensures { MatchBool result (Heads self.now.source self.now.file.now self.now.«record») (Heads self.now.source self.now.file.now self.now.«record» → ⊥) }
     {
-        match self.source {
-            Source::Processor => self.heads_processor(file),
-            Source::Tasks => self.heads_tasks(file),
-        }
-    }
-}
-
-// How many fields the records of a file have.
-fn width(source: Source) -> u32
-    ensures { result ≡ width_of source }
-{
-    match source {
-        Source::Processor => 4,
-        Source::Tasks => 5,
+        self.record.fields == self.source.width()
+            && self
+                .source
+                .columns()
+                .iter()
+                .all(|(number, name)| self.reads(*number, name))
     }
 }
 
 // The record that starts at a place, by the grammar alone.
-fn read_line(file: &[u8], source: Source, number: u32, at: usize) -> Result<Line, Fault>
+fn read_line(file: &[u8], source: Source, number: u32, at: usize) -> Result<Line<'_>, Fault>
     ensures reads { LineAt file.now source number at result }
     ensures forward { IfOk result (λ line. at < length file.now → at < line.«record».next) }
     ensures within { IfOk result (λ line. line.«record».next ≤ length file.now) }
 {
-    match next_record(file, at) {
-        Ok(record) => Ok(Line {
-            source,
-            number,
-            record,
-        }),
-        Err(broken) => Err(Fault {
-            layer: Layer::Records,
-            cause: Refusal::NotCsv,
-            file: source,
-            record: number,
-            field: broken.field,
-        }),
-    }
+    let record = next_record(file, at).map_err(|broken| Fault {
+        layer: Layer::Records,
+        cause: Refusal::NotCsv,
+        file: source,
+        record: number,
+        field: broken.field,
+    })?;
+    Ok(Line {
+        file,
+        source,
+        number,
+        record,
+    })
 }
 
 // Reads the header of a file that is not too long, and says where the first record after it starts.
@@ -150,20 +106,20 @@ pub fn read_header(file: &[u8], source: Source) -> Result<usize, Fault>
         });
     }
     let line = read_line(file, source, 0, 0)?;
-    if !line.is_header(file) {
+    if !line.is_header() {
         return Err(line.fault(Layer::Records, Refusal::HeaderDiffers, 0));
     }
     Ok(line.record.next)
 }
 
 // Reads a record after the header, with as many fields as its file has columns.
-pub fn read_entry(file: &[u8], source: Source, number: u32, at: usize) -> Result<Line, Fault>
+pub fn read_entry(file: &[u8], source: Source, number: u32, at: usize) -> Result<Line<'_>, Fault>
     ensures reads { EntryAt file.now source number at result }
     ensures forward { IfOk result (λ line. at < length file.now → at < line.«record».next) }
     ensures within { IfOk result (λ line. line.«record».next ≤ length file.now) }
 {
     let line = read_line(file, source, number, at)?;
-    if line.record.fields != width(source) {
+    if line.record.fields != source.width() {
         return Err(line.fault(Layer::Records, Refusal::FieldCount, 0));
     }
     Ok(line)

@@ -1,9 +1,10 @@
 ghost use Rattle.std.specs.Prelude.{◌≡◌, Ok, MatchResult, OnErr, OnOk};
-ghost use Rattle.input.specs.ProcessorFiles.{field_refused, entry_answer, Entered, TableFault, EntriesRead, Blamed};
+ghost use Rattle.input.specs.ProcessorFiles.{field_refused, listed, entry_answer, Entered, TableFault, EntriesRead, Blamed};
 
+use crate::entries::Entries;
 use crate::entry::{Entry, entry_of};
 use crate::fault::{Fault, Layer, Source, Unread};
-use crate::line::{Line, read_entry, read_header};
+use crate::line::Line;
 use processor::refusal::Refusal;
 use processor::table::Processor;
 use std::alloc::Global;
@@ -24,8 +25,8 @@ fn refused_field(cause: Refusal) -> u32
 
 // Puts an entry into the table.
 fn enter(table: &mut Processor, entry: Entry) -> Result<(), Refusal>
-    ensures answer { result ≡ entry_answer entry table.old.modes.items table.old.switches.items table.old.frames.items }
-    ensures entered { OnOk result (Entered entry table.old.modes.items table.old.switches.items table.old.frames.items table.new.modes.items table.new.switches.items table.new.frames.items) }
+    ensures answer { result ≡ entry_answer entry (listed table.old) }
+    ensures entered { OnOk result (Entered entry (listed table.old) (listed table.new)) }
     ensures same { OnErr result (table.new ≡ table.old) }
 {
     match entry {
@@ -40,9 +41,9 @@ fn enter(table: &mut Processor, entry: Entry) -> Result<(), Refusal>
 }
 
 // Lists the entry of a record in the table.
-fn list(table: &mut Processor, line: &Line, entry: Entry) -> Result<(), Fault>
-    ensures answer { MatchResult result (λ _. entry_answer entry table.old.modes.items table.old.switches.items table.old.frames.items ≡ Ok tt) (λ e. TableFault line.now entry table.old.modes.items table.old.switches.items table.old.frames.items e) }
-    ensures entered { OnOk result (Entered entry table.old.modes.items table.old.switches.items table.old.frames.items table.new.modes.items table.new.switches.items table.new.frames.items) }
+fn list(table: &mut Processor, line: &Line<'_>, entry: Entry) -> Result<(), Fault>
+    ensures answer { MatchResult result (λ _. entry_answer entry (listed table.old) ≡ Ok tt) (λ e. TableFault line.now entry (listed table.old) e) }
+    ensures entered { OnOk result (Entered entry (listed table.old) (listed table.new)) }
     ensures same { OnErr result (table.new ≡ table.old) }
 {
     match enter(table, entry) {
@@ -55,15 +56,12 @@ fn list(table: &mut Processor, line: &Line, entry: Entry) -> Result<(), Fault>
 pub fn read_processor(heap: Global, file: &[u8]) -> Result<Processor, Unread>
     ensures { MatchResult result (λ t. EntriesRead file.now t) (λ u. Blamed file.now u) }
 {
-    let mut at = read_header(file, Source::Processor)?;
+    let entries = Entries::of(file, Source::Processor)?;
     let mut table = Processor::new(heap)?;
-    let mut number = 0;
-    'records: while at < file.len() {
-        number += 1;
-        let line = read_entry(file, Source::Processor, number, at)?;
-        let entry = entry_of(file, &line)?;
+    for line in entries {
+        let line = line?;
+        let entry = entry_of(&line)?;
         list(&mut table, &line, entry)?;
-        at = line.record.next;
     }
     if table.has_mode() {
         return Ok(table);

@@ -10,11 +10,8 @@ fn record_start(file: &[u8], number: u32) -> Option<usize>
     ensures { MatchOption result ((at : ℕ) → RecordStart file.now number at → ⊥) (λ at. RecordStart file.now number at) }
 {
     let mut at = 0;
-    'skipped: for _ in 0..number {
-        match next_record(file, at) {
-            Ok(record) => at = record.next,
-            Err(_) => return None,
-        }
+    for _ in 0..number {
+        at = next_record(file, at).ok()?.next;
         if at >= file.len() {
             return None;
         }
@@ -26,39 +23,26 @@ fn record_start(file: &[u8], number: u32) -> Option<usize>
 fn broken_text(file: &[u8], at: usize, number: u32) -> Option<&[u8]>
     ensures { MatchOption result ((t : List ℕ) → BrokenText file.now at number t → ⊥) (λ t. BrokenText file.now at number t.now) }
 {
-    match next_record(file, at) {
-        Ok(_) => None,
-        Err(broken) => {
-            if broken.field != number {
-                return None;
-            }
-            let start = broken.start;
-            let end = broken.end;
-            Some(&file[start..end])
-        }
+    let broken = next_record(file, at).err()?;
+    if broken.field != number {
+        return None;
     }
+    file.get(broken.start..broken.end)
 }
 
 // A field of the record that starts at a place.
 fn field_text(file: &[u8], at: usize, number: u32) -> Option<&[u8]>
     ensures { MatchOption result ((t : List ℕ) → FieldText file.now at number t → ⊥) (λ t. FieldText file.now at number t.now) }
 {
-    match next_record(file, at) {
-        Ok(record) => match field(file, &record, number) {
-            Some(part) => part.text(file),
-            None => None,
-        },
-        Err(_) => None,
-    }
+    let record = next_record(file, at).ok()?;
+    field(file, &record, number)?.text(file)
 }
 
 // The text of the field at fault, in the file that the fault is of.
 fn text_in<'a>(file: &'a [u8], fault: &Fault) -> Option<&'a [u8]>
     ensures { MatchOption result ((t : List ℕ) → FaultText file.now fault.now.cause fault.now.«record» fault.now.field t → ⊥) (λ t. FaultText file.now fault.now.cause fault.now.«record» fault.now.field t.now) }
 {
-    let Some(at) = record_start(file, fault.record) else {
-        return None;
-    };
+    let at = record_start(file, fault.record)?;
     match fault.cause {
         Refusal::NotCsv => broken_text(file, at, fault.field),
         _ => field_text(file, at, fault.field),

@@ -7,47 +7,35 @@ use std::alloc::Global;
 use std::process::Abort;
 use std::test::Fail;
 
-// The fault of a file is this one.
-fn is_fault(rt: &impl Abort, unread: Unread, expected: Fault) -> Result<(), Fail> {
-    match unread {
-        Unread::Faulty(fault) => {
-            assert!(rt; fault.layer == expected.layer);
-            assert!(rt; fault.file == expected.file);
-            assert_eq!(rt; fault.cause, expected.cause);
-            assert_eq!(rt; fault.record, expected.record);
-            assert_eq!(rt; fault.field, expected.field);
-            Ok(())
-        }
-        Unread::Memory => Err(Fail::new("no memory")),
-    }
-}
-
-// A processor's file, after its header, has this fault, and this is the text of the field at fault.
-fn refuses(
-    rt: &impl Abort,
-    heap: Global,
-    file: &[u8],
-    layer: Layer,
-    cause: Refusal,
-    record: u32,
-    field: u32,
-    text: &[u8],
-) -> Result<(), Fail> {
-    let fault = Fault {
+// A fault in the processor's file.
+fn fault(layer: Layer, cause: Refusal, record: u32, field: u32) -> Fault {
+    Fault {
         layer,
         cause,
         file: Source::Processor,
         record,
         field,
-    };
+    }
+}
+
+// A processor's file has this fault, and this is the text of the field at fault.
+fn refuses(
+    rt: &impl Abort,
+    heap: Global,
+    file: &[u8],
+    fault: Fault,
+    text: &[u8],
+) -> Result<(), Fail> {
     match fault_text(file, b"", &fault) {
         Some(found) => assert!(rt; found == text),
         None => assert!(rt; text.is_empty()),
     }
     match read_processor(heap, file) {
-        Ok(_) => Err(Fail::new("a table")),
-        Err(unread) => is_fault(rt, unread, fault),
+        Err(Unread::Faulty(found)) => assert_eq!(rt; found, fault),
+        Err(Unread::Memory) => return Err(Fail::new("no memory")),
+        Ok(_) => return Err(Fail::new("a table")),
     }
+    Ok(())
 }
 
 #[test]
@@ -57,100 +45,70 @@ fn records(rt: HostRuntime) -> Result<(), Fail> {
         &rt,
         heap,
         &[b'a'; 65_537],
-        Layer::Bytes,
-        Refusal::FileTooLong,
-        0,
-        0,
+        fault(Layer::Bytes, Refusal::FileTooLong, 0, 0),
         b"",
     )?;
     refuses(
         &rt,
         heap,
         b"",
-        Layer::Records,
-        Refusal::HeaderDiffers,
-        0,
-        0,
+        fault(Layer::Records, Refusal::HeaderDiffers, 0, 0),
         b"",
     )?;
     refuses(
         &rt,
         heap,
         b"kind,a,\"b",
-        Layer::Records,
-        Refusal::NotCsv,
-        0,
-        3,
+        fault(Layer::Records, Refusal::NotCsv, 0, 3),
         b"\"b",
     )?;
     refuses(
         &rt,
         heap,
         b"kind,a,b,d\r\n",
-        Layer::Records,
-        Refusal::HeaderDiffers,
-        0,
-        0,
+        fault(Layer::Records, Refusal::HeaderDiffers, 0, 0),
         b"",
     )?;
     refuses(
         &rt,
         heap,
         b"kind,a,b,c\r\n",
-        Layer::Table,
-        Refusal::NoMode,
-        0,
-        0,
+        fault(Layer::Table, Refusal::NoMode, 0, 0),
         b"",
     )?;
     refuses(
         &rt,
         heap,
         b"kind,a,b,c\r\n\r\n",
-        Layer::Records,
-        Refusal::FieldCount,
-        1,
-        0,
+        fault(Layer::Records, Refusal::FieldCount, 1, 0),
         b"",
     )?;
     refuses(
         &rt,
         heap,
         b"kind,\"a\",b,c\r\nmode,1,2,3\r\nfan,x,x,x",
-        Layer::Numbers,
-        Refusal::UnknownKind,
-        2,
-        1,
+        fault(Layer::Numbers, Refusal::UnknownKind, 2, 1),
         b"fan",
     )?;
     refuses(
         &rt,
         heap,
         b"kind,a,b,c\r\nframe,x,,\"1\"",
-        Layer::Numbers,
-        Refusal::FrameFieldFilled,
-        1,
-        4,
+        fault(Layer::Numbers, Refusal::FrameFieldFilled, 1, 4),
         b"1",
     )?;
     refuses(
         &rt,
         heap,
         b"kind,a,b,c\r\nframe,,\"\",\r\n",
-        Layer::Numbers,
-        Refusal::NotANumber,
-        1,
-        2,
+        fault(Layer::Numbers, Refusal::NotANumber, 1, 2),
         b"",
     )?;
     refuses(
         &rt,
         heap,
         b"kind,a,b,c\r\nswitch,1,x\t",
-        Layer::Records,
-        Refusal::NotCsv,
-        1,
-        3,
+        fault(Layer::Records, Refusal::NotCsv, 1, 3),
         b"x",
     )
 }
@@ -170,10 +128,7 @@ fn table_refuses(
         rt,
         heap,
         file.as_slice(),
-        Layer::Table,
-        cause,
-        3,
-        field,
+        fault(Layer::Table, cause, 3, field),
         text,
     )
 }
@@ -223,10 +178,7 @@ fn table(rt: HostRuntime) -> Result<(), Fail> {
         &rt,
         heap,
         twice,
-        Layer::Table,
-        Refusal::FrameRepeated,
-        2,
-        2,
+        fault(Layer::Table, Refusal::FrameRepeated, 2, 2),
         b"5",
     )?;
     let back = b"kind,a,b,c\r\nmode,1,1,1\r\nmode,2,1,1\r\nswitch,1,2,3\r\nswitch,1,2,99999";
@@ -234,10 +186,7 @@ fn table(rt: HostRuntime) -> Result<(), Fail> {
         &rt,
         heap,
         back,
-        Layer::Table,
-        Refusal::SwitchRepeated,
-        4,
-        3,
+        fault(Layer::Table, Refusal::SwitchRepeated, 4, 3),
         b"2",
     )?;
     let nine =
@@ -246,10 +195,7 @@ fn table(rt: HostRuntime) -> Result<(), Fail> {
         &rt,
         heap,
         nine,
-        Layer::Table,
-        Refusal::NinthFrame,
-        9,
-        2,
+        fault(Layer::Table, Refusal::NinthFrame, 9, 2),
         b"9",
     )
 }
@@ -279,7 +225,13 @@ fn tasks(rt: HostRuntime) -> Result<(), Fail> {
     let file = b"rank,cycles,fixed,period,deadline\r\n4294967295,0,0000000000,4294967296,-";
     assert!(rt; fault_text(b"", file, &fault) == Some(b"4294967296"));
     match read_tasks(heap, file) {
-        Ok(_) => Err(Fail::new("figures")),
-        Err(unread) => is_fault(&rt, unread, fault),
+        Err(Unread::Faulty(found)) => assert_eq!(rt; found, fault),
+        Err(Unread::Memory) => return Err(Fail::new("no memory")),
+        Ok(_) => return Err(Fail::new("figures")),
     }
+    let shown = format!(in heap; "{fault}")?;
+    assert!(rt;
+        shown.as_str() == "record 1, field 4: expected one to ten digits, at most 4294967295"
+    );
+    Ok(())
 }
