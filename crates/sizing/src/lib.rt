@@ -1,6 +1,5 @@
 #![tactic(auto)]
 
-pub mod advice;
 pub mod program;
 pub mod size;
 #[cfg(test)]

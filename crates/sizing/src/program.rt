@@ -1,4 +1,3 @@
-use crate::advice::expected;
 use crate::size::{SizeError, fault_line, size};
 use anyhow::anyhow;
 use demand::policy::Policy;
@@ -52,10 +51,7 @@ fn paths(rt: &HostRuntime) -> anyhow::Result<(String, String)> {
 
 // Tells a person where a file has a fault, what was expected there, and the text that is there.
 fn explain(rt: &HostRuntime, path: &str, fault: &Fault, text: Option<&[u8]>) -> anyhow::Result<()> {
-    let wanted = expected(fault.cause);
-    let record = fault.record;
-    let field = fault.field;
-    eprint!(rt; "{path}: record {record}, field {field}: expected {wanted}")?;
+    eprint!(rt; "{path}: {fault}")?;
     if let Some(bytes) = text {
         rt.stderr().write_all(b", found ")?;
         rt.stderr().write_all(bytes)?;
