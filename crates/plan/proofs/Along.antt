@@ -1,6 +1,7 @@
 -- Going along the splits of a frame.
 use Rattle.std.proofs.Common.{◌≡◌, ℕ, ◌+◌, ◌-◌, ◌*◌, ◌<◌, ◌≤◌, Bool, true, false, leb, IfSome, Some, None, Option, sym, refl, ap, ◌∙◌, subst, ap₂, inl, inr, ⊎_elim, mul-le-mul_right, mul-add, arith, leb-false, leb-true, MatchOption}
 use Rattle.std.proofs.lemmas.Bool.{cases_lt, cases_Bool}
+use Rattle.std.proofs.lemmas.Option.{MatchOption-at_some}
 use Rattle.processor.specs.Drives.{energy_of, span_of}
 use Rattle.processor.specs.Intervals.{Within, SplitOf, numbered_time}
 use Rattle.processor.specs.declared.drive.Drive.{Drive}
@@ -42,6 +43,11 @@ falling l h P q x le i =
 pub split_same : (s : Splits) (q : ℕ) (p r : Pair) → SplitOf s q p → SplitOf s q r → p ≡ r
 split_same s q p r (a, b, c, d, e, f, h) (a', b', c', d', e', f', h') =
     same_pair p r (a ∙ sym a') (b ∙ sym b') (c ∙ sym c') (d ∙ sym d') (e ∙ sym e') (h ∙ sym h') (f ∙ sym f')
+
+-- the pair of a number is the split of its high time
+pub split_at : (s : Splits) (k : ℕ) (o : Option Pair) (p : Pair) → o ≡ Some p
+    → MatchOption o (s.most - s.least + 1 ≤ k) (λ r. SplitOf s (numbered_time s k) r) → SplitOf s (numbered_time s k) p
+split_at s k o p e m = MatchOption-at_some (s.most - s.least + 1 ≤ k) (λ r. SplitOf s (numbered_time s k) r) p e m
 
 module _ (s : Splits) where
   -- the cost rises with the number

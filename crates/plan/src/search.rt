@@ -51,10 +51,7 @@ impl<C: Condition> Search<'_, C> {
         ensures { Improves (C.meets self.now.condition.now) (SplitIn splits.now) best result }
     {
         'splits: for number in 0..splits.count() {
-            let Some(pair) = splits.pair(number) else {
-                return best;
-            };
-            let drive = Drive::Pair(pair);
+            let drive = Drive::Pair(splits.pair(number).unwrap());
             if !is_cheaper(&drive, best) {
                 return best;
             }

@@ -1,26 +1,32 @@
 use Rattle.std.proofs.Common.{refl, subst, arith, below_more}
 use Rattle.processor.specs.declared.drive.Drive.TheVariants.{Pair as Turns}
 use Rattle.processor.specs.declared.drive.Pair.{Pair}
-use Rattle.plan.proofs.Along.{stays, takes, ends, dearer, cheaper, split_same}
+use Rattle.plan.proofs.Along.{split_at, stays, takes, ends, dearer, cheaper, split_same}
 use Rattle.plan.proofs.search.Search.better_split.Goals as goal
 
 pub returns-then-not-is_cheaper : goal.returns-then-not-is_cheaper
 returns-then-not-is_cheaper g c =
-    stays c.args.splits.now (g.C.Condition.meets c.args.self.now.condition.now) c.splits.number c.splits.invariant c.in-Some.pair c.in-Some.ensures c.args.best
-    (dearer (Turns c.in-Some.pair) c.args.best c.if-not-is_cheaper.ensures)
+    let s = c.args.splits.now in
+    let a = split_at s c.splits.number c.pair.result c.unwrap.result c.unwrap.ensures c.pair.ensures in
+    stays s (g.C.Condition.meets c.args.self.now.condition.now) c.splits.number c.splits.invariant c.unwrap.result a c.args.best
+    (dearer (Turns c.unwrap.result) c.args.best c.if-not-is_cheaper.ensures)
 
 pub returns-then-meets : goal.returns-then-meets
 returns-then-meets g c =
-    takes c.args.splits.now (g.C.Condition.meets c.args.self.now.condition.now) c.splits.number c.splits.invariant c.in-Some.pair
-    (omega (arith, c.count-number-end.ensures)) c.in-Some.ensures (c.if-meets.ensures.0 refl) c.args.best
-    (cheaper (Turns c.in-Some.pair) c.args.best c.if-not-is_cheaper.ensures)
+    let s = c.args.splits.now in
+    let a = split_at s c.splits.number c.pair.result c.unwrap.result c.unwrap.ensures c.pair.ensures in
+    takes s (g.C.Condition.meets c.args.self.now.condition.now) c.splits.number c.splits.invariant c.unwrap.result
+    (omega (arith, c.count-number-end.ensures)) a (c.if-meets.ensures.0 refl) c.args.best
+    (cheaper (Turns c.unwrap.result) c.args.best c.if-not-is_cheaper.ensures)
 
 pub splits-preserved : goal.splits-preserved
 splits-preserved g c =
+    let s = c.args.splits.now in
+    let a = split_at s c.splits.number c.pair.result c.unwrap.result c.unwrap.ensures c.pair.ensures in
     below_more _ _ c.splits.invariant
-    (λ p a m.
+    (λ p b m.
     let M : Pair → Type 0 = λ v. g.C.Condition.meets c.args.self.now.condition.now (Turns v) in
-    let e = split_same c.args.splits.now _ p c.in-Some.pair a c.in-Some.ensures in
+    let e = split_same s _ p c.unwrap.result b a in
     let f = c.if-meets.ensures.1 (subst M e m) in
     cc)
 
