@@ -75,6 +75,7 @@ tasks_refused F s t r line x ts (a, u) h e g = let k = next_whole F Tasks s t r 
 pub tasks_all : (F : List ℕ) (s t : Entries) (ts : List Figures) → TasksWalked F s ts → NextEntry s None t → TasksRead F (Ok ts)
 tasks_all F s t ts (a, u) h = (s.number, s.at, u, next_none F Tasks s t a h)
 
+-- a table that lists nothing
 pub listed_none : (ms : List Mode) (ss : List Switch) (ps : List ℕ) → ms ≡ [] → ss ≡ [] → ps ≡ [] → ◌≡◌ {A = Listed} (record { modes = ms; switches = ss; frames = ps }) nothing
 listed_none ms ss ps p q r = rw (p, q, r)
 

@@ -5,7 +5,7 @@ use Rattle.input.specs.declared.entries.Entries.{Entries}
 use Rattle.input.specs.declared.fault.Fault.{Fault}
 use Rattle.input.specs.declared.line.Line.{Line}
 
--- the walk over a file has come so far
+-- a walk stays in its file
 abbrev pub SameFile : Entries → Entries → Type 0
 SameFile s t = (t.file.now ≡ s.file.now) × (t.source ≡ s.source)
 

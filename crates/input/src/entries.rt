@@ -3,7 +3,8 @@ ghost use Rattle.std.specs.Prelude.{◌≤◌, length};
 use crate::fault::{Fault, Source};
 use crate::line::{Line, read_entry, read_header};
 
-// The records of a file after its header.
+// The records of a file after its header, up to the first that is at fault: how many were read, and where the next one
+// starts.
 #[derive(Drop)]
 pub(crate) struct Entries<'a> {
     file: &'a [u8],
@@ -44,6 +45,7 @@ impl<'a> Iterator for Entries<'a> {
 
     ghost remaining = { λ s. at_most (length s.file.now - s.at) };
 
+    // The next record, or its fault, after which none is left.
     fn next(&mut self) -> Option<Result<Line<'a>, Fault>> {
         if self.at >= self.file.len() {
             return None;

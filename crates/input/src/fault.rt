@@ -52,13 +52,10 @@ impl Source {
     }
 
     // How many fields the records of the file have.
-    pub(crate) fn width(self) -> u32
+    pub(crate) fn width(self) -> usize
         ensures { result ≡ width_of self }
     {
-        match self {
-            Source::Processor => 4,
-            Source::Tasks => 5,
-        }
+        self.columns().len()
     }
 }
 

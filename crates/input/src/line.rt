@@ -60,7 +60,7 @@ impl<'a> Line<'a> {
     fn is_header(&self) -> bool
         ensures { MatchBool result (Heads self.now.source self.now.file.now self.now.«record») (Heads self.now.source self.now.file.now self.now.«record» → ⊥) }
     {
-        self.record.fields == self.source.width()
+        self.record.fields as usize == self.source.width()
             && self
                 .source
                 .columns()
@@ -119,7 +119,7 @@ pub fn read_entry(file: &[u8], source: Source, number: u32, at: usize) -> Result
     ensures within { IfOk result (λ line. line.«record».next ≤ length file.now) }
 {
     let line = read_line(file, source, number, at)?;
-    if line.record.fields != source.width() {
+    if line.record.fields as usize != source.width() {
         return Err(line.fault(Layer::Records, Refusal::FieldCount, 0));
     }
     Ok(line)
