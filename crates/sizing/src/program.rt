@@ -83,15 +83,10 @@ pub fn run<Q: Policy + Drop>(rt: &HostRuntime, policy: Q) -> anyhow::Result<()> 
     let (processor_path, tasks_path) = paths(rt)?;
     let processor = InputFile::read(rt, processor_path)?;
     let tasks = InputFile::read(rt, tasks_path)?;
-    match size(rt.alloc(), policy, &processor.bytes, &tasks.bytes) {
-        Ok(report) => {
-            rt.stdout().write_all(report.as_bytes())?;
-            Ok(())
-        }
-        Err(SizeError::Faulty(fault)) => {
-            print_fault(rt, &fault, &processor, &tasks)?;
-            Err(anyhow!("a file has a fault"))
-        }
-        Err(SizeError::Refused(_)) => Err(anyhow!("there is not enough memory")),
+    let sized = size(rt.alloc(), policy, &processor.bytes, &tasks.bytes);
+    if let Err(SizeError::Faulty(fault)) = &sized {
+        print_fault(rt, fault, &processor, &tasks)?;
     }
+    rt.stdout().write_all(sized?.as_bytes())?;
+    Ok(())
 }

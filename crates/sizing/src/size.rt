@@ -15,15 +15,28 @@ use plan::plan::Plan;
 use processor::refusal::{Refusal, Refused};
 use report::{FaultLine, Header, Line};
 use std::alloc::{AllocError, Global};
+use std::error::Error;
+use std::fmt;
 use supply::formula::Formula;
 use supply::platform::Platform;
 
 // Why two files give no report: one of them has a fault, or a call was turned away.
-#[derive(Clone, Copy)]
+#[derive(Clone, Copy, PartialEq, Eq, Debug)]
 pub enum SizeError {
     Faulty(Fault),
     Refused(Refusal),
 }
+
+impl fmt::Display for SizeError {
+    fn fmt<W: fmt::Write>(&self, f: &mut fmt::Formatter<W>) -> fmt::Result {
+        f.write_str(match self {
+            SizeError::Faulty(_) => "a file has a fault",
+            SizeError::Refused(_) => "there is not enough memory",
+        })
+    }
+}
+
+impl Error for SizeError {}
 
 impl From<Unread> for SizeError {
     ghost from_gives = { λ u e. ((f : Fault) → u ≡ Unread.Faulty f → e ≡ Faulty f)
