@@ -7,7 +7,7 @@ use processor::refusal::Refusal;
 use std::fmt;
 
 // The line of a fault: why, and in which file, record and field.
-#[derive(Clone, Copy)]
+#[derive(Clone, Copy, PartialEq, Eq, Debug)]
 pub struct FaultLine {
     pub refusal: Refusal,
     pub file: u32,

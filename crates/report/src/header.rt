@@ -6,7 +6,7 @@ use arrayvec::ArrayString;
 use std::fmt;
 
 // The line that names the columns.
-#[derive(Clone, Copy)]
+#[derive(Clone, Copy, PartialEq, Eq, Debug)]
 pub struct Header;
 
 impl Row for Header {

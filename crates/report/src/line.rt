@@ -9,7 +9,7 @@ use std::fmt;
 
 // A line of a report: the number of the record, from 1, what its call answered, the ticket or why there is none, and
 // the drive after the call.
-#[derive(Clone, Copy)]
+#[derive(Clone, Copy, PartialEq, Eq, Debug)]
 pub struct Line {
     pub record: u32,
     pub answer: Result<u32, Refusal>,
