@@ -25,7 +25,7 @@ member_removed (y ∷ xs) zero x m = Memᴰ.tail m
 member_removed (y ∷ xs) (suc i) x (Memᴰ.head e) = Memᴰ.head e
 member_removed (y ∷ xs) (suc i) x (Memᴰ.tail m) = Memᴰ.tail (member_removed xs i x m)
 
-sum_by_removed : (f : Charged → ℕ) (cs : List Charged) (i : ℕ) → sum_by f (remove cs i) ≤ sum_by f cs
+pub sum_by_removed : (f : Charged → ℕ) (cs : List Charged) (i : ℕ) → sum_by f (remove cs i) ≤ sum_by f cs
 sum_by_removed f [] zero = omega arith
 sum_by_removed f [] (suc i) = omega arith
 sum_by_removed f (c ∷ cs) zero = omega (arith, sum_by-cons f c cs)

@@ -1,5 +1,5 @@
 -- The hyperperiod is the least positive common multiple, and how the code comes to it.
-use Rattle.std.specs.Prelude.{◌≡◌, ℕ, zero, suc, ◌+◌, ◌-◌, ◌*◌, ◌/◌, ◌%◌, ◌<◌, ◌≤◌, ◌⊎◌, List, [], ◌∷◌, refl}
+use Rattle.std.specs.Prelude.{◌≡◌, ℕ, zero, suc, ◌+◌, ◌-◌, ◌*◌, ◌/◌, ◌%◌, ◌<◌, ◌≤◌, ◌⊎◌, List, [], ◌∷◌, ◌++◌, refl}
 use Rattle.std.proofs.Common.{sym, ◌∙◌, ap, ap₂, subst, inl, inr, arith, div-add-mod', mod-lt, mul-div_cancel, mul_assoc, mul_comm, mul-le-mul}
 use mathlib.Core.List.Memᴰ
 use mathlib.Core.List.{Memᴰ}
@@ -154,6 +154,33 @@ hyper_is_least ns f =
 pub least_one : (ns : List ℕ) (a b : ℕ) → Least ns a → Least ns b → a ≡ b
 least_one ns a b x y = omega (arith, x.least b y.positive y.common, y.least a x.positive x.common)
 
+-- one number more, at the end
+pub least_more : (ns : List ℕ) (h n : ℕ) → Least ns h → 1 ≤ n → ((k : ℕ) → Common ns k → Multiple h k) → Least (ns ++ n ∷ []) (lcm h n)
+least_more ns h n x b divides =
+    record {
+      positive = l.2;
+      common = λ m i. pick m (Memᴰ.append_cases ns i);
+      least = λ k p q. multiple_le (lcm h n) k p (lcm_least h n k x.positive b (divides k (λ m i. q m (Memᴰ.append_left (n ∷ []) i))) (q n (Memᴰ.append_right ns (Memᴰ.head refl))));
+    }
+  where
+    l : Multiple h (lcm h n) × Multiple n (lcm h n) × (1 ≤ lcm h n)
+    l = lcm_laws h n x.positive b
+
+    through : (m : ℕ) → Multiple h (lcm h n) → Multiple m h → Multiple m (lcm h n)
+    through m (x, e) (y, s) = (x * y, e ∙ ap (λ u. x * u) s ∙ sym (mul_assoc x y m))
+
+    pick : (m : ℕ) → Memᴰ m ns ⊎ Memᴰ m (n ∷ []) → Multiple m (lcm h n)
+    pick m (inl i) = through m l.0 (x.common m i)
+    pick m (inr i) = subst (λ y. Multiple y (lcm h n)) (sym (Memᴰ.eq_of_singleton i)) l.1
+
+pub hyper_push : (ns : List ℕ) (n : ℕ) → Positive (ns ++ n ∷ []) → hyper (ns ++ n ∷ []) ≡ lcm (hyper ns) n
+hyper_push ns n f =
+    least_one (ns ++ n ∷ []) (hyper (ns ++ n ∷ [])) (lcm (hyper ns) n) (hyper_is_least (ns ++ n ∷ []) f)
+    (least_more ns (hyper ns) n (hyper_is_least ns front) (f n (Memᴰ.append_right ns (Memᴰ.head refl))) (λ k m. hyper_least ns front k m))
+  where
+    front : Positive ns
+    front m i = f m (Memᴰ.append_left (n ∷ []) i)
+
 lcm_assoc : (a b c : ℕ) → 1 ≤ a → 1 ≤ b → 1 ≤ c → lcm (lcm a b) c ≡ lcm a (lcm b c)
 lcm_assoc a b c ha hb hc =
     let p = lcm_laws a b ha hb in
@@ -187,8 +214,8 @@ pub hyper_none : (h : ℕ) → 1 ≤ h → lcm h (hyper []) ≡ h
 unfolding hyper
 hyper_none h b = (lcm_one h b).0
 
-pub hyper_all : (ns : List ℕ) → Positive ns → lcm 1 (hyper ns) ≡ hyper ns
-hyper_all ns f = (lcm_one (hyper ns) (hyper_positive ns f)).1
+pub hyper_from_one : (ns : List ℕ) → Positive ns → lcm 1 (hyper ns) ≡ hyper ns
+hyper_from_one ns f = (lcm_one (hyper ns) (hyper_positive ns f)).1
 
 -- fewer numbers, no longer hyperperiod
 pub hyper_part : (ns ms : List ℕ) → Positive ns → ((n : ℕ) → Memᴰ n ms → Memᴰ n ns) → hyper ms ≤ hyper ns

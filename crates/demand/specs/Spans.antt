@@ -1,16 +1,18 @@
 -- The hyperperiod of tasks, charged or not, and the groups within the span.
-use Rattle.std.specs.Prelude.{◌≡◌, ℕ, ◌<◌, ◌≤◌, true, false, leb, ◌⊎◌, List, [], ◌∷◌, map, Some, None, nat_le, refl}
+use Rattle.std.specs.Prelude.{◌≡◌, ℕ, zero, suc, ◌+◌, ◌<◌, ◌≤◌, true, false, leb, ◌⊎◌, List, [], ◌∷◌, ◌++◌, map, length, take, Some, None, nat_le, slice_index_or, refl}
 use Rattle.std.proofs.Common.{sym, ap, subst, ◌∙◌, inl, inr, arith, leb-true, le-leb}
 use mathlib.Core.List.Memᴰ
+use mathlib.Core.List.{Memᴰ}
 use Rattle.std.proofs.lemmas.Bool.{cases_lt, lt-leb}
+use Rattle.std.proofs.lemmas.List.{map_more, take-map, take_all}
 use Rattle.demand.specs.declared.task.Task.{Task}
 use Rattle.demand.specs.Limits.{longest_span}
 use Rattle.demand.specs.Figures.{times_of}
 use Rattle.demand.specs.Charges.{Charged, charges}
-use Rattle.demand.specs.Hyper.{hyper, periods, edf_span, within_span}
+use Rattle.demand.specs.Hyper.{lcm, hyper, periods, edf_span, within_span}
 use Rattle.demand.specs.Listings.{edf_times, edf_group, edf_groups, hyper_of}
 use Rattle.demand.specs.Points.{Shared, charges_fit}
-use Rattle.demand.specs.HyperLemmas.{Positive, hyper_positive, hyper_common}
+use Rattle.demand.specs.HyperLemmas.{Positive, hyper_positive, hyper_common, hyper_push, hyper_part}
 
 pub periods_positive : (ts : List Task) → Positive (periods ts)
 periods_positive ts n i =
@@ -81,3 +83,26 @@ none_within h e = way (cases_lt longest_span h)
     way : (longest_span < h) ⊎ (h ≤ longest_span) → longest_span < h
     way (inl l) = l
     way (inr l) = let f : None ≡ Some h = e ∙ within_some h l in let z : ◌≡◌ {A = ℕ} 0 1 = cc in absurd (omega arith)
+
+-- ---- the tasks from the front on
+
+pub hyper_next : (ts : List Task) (i : ℕ) (x : Task) → i < length ts → x ≡ slice_index_or ts i x
+    → hyper (periods (take (i + 1) ts)) ≡ lcm (hyper (periods (take i ts))) x.period
+hyper_next ts i x h e =
+    let n : periods (take (i + 1) ts) ≡ periods (take i ts) ++ x.period ∷ [] =
+    map_more (λ t. t.period) ts i x h ∙ ap (λ (y : Task). periods (take i ts) ++ y.period ∷ []) (sym e) in
+    ap hyper n ∙ hyper_push (periods (take i ts)) x.period (subst Positive n (periods_positive (take (i + 1) ts)))
+
+pub hyper_front : (ts : List Task) (i : ℕ) → hyper (periods (take i ts)) ≤ hyper (periods ts)
+hyper_front ts i =
+    let e : hyper (periods (take i ts)) ≡ hyper (take i (periods ts)) = ap hyper (sym (take-map (λ t. t.period) i ts)) in
+    omega (arith, e, hyper_part (periods ts) (take i (periods ts)) (periods_positive ts) (member_front (periods ts) i))
+  where
+    member_front : (ns : List ℕ) (k n : ℕ) → Memᴰ n (take k ns) → Memᴰ n ns
+    member_front ns zero n m = absurd (Memᴰ.not-nil m)
+    member_front [] (suc k) n m = m
+    member_front (a ∷ ns) (suc k) n (Memᴰ.head f) = Memᴰ.head f
+    member_front (a ∷ ns) (suc k) n (Memᴰ.tail m) = Memᴰ.tail (member_front ns k n m)
+
+pub hyper_all : (ts : List Task) (i : ℕ) → length ts ≤ i → hyper (periods (take i ts)) ≡ hyper (periods ts)
+hyper_all ts i h = ap (λ us. hyper (periods us)) (take_all i ts h)

@@ -29,10 +29,11 @@ pub enum SizeError {
 
 impl fmt::Display for SizeError {
     fn fmt<W: fmt::Write>(&self, f: &mut fmt::Formatter<W>) -> fmt::Result {
-        f.write_str(match self {
-            SizeError::Faulty(_) => "a file has a fault",
-            SizeError::Refused(_) => "there is not enough memory",
-        })
+        match self {
+            SizeError::Faulty(_) => f.write_str("a file has a fault"),
+            SizeError::Refused(Refusal::Memory) => f.write_str("there is not enough memory"),
+            SizeError::Refused(refusal) => write!(f, "{refusal}"),
+        }
     }
 }
 

@@ -222,6 +222,11 @@ pub drive_least : SupplyIsLeast
 drive_least (Fixed m) t = record { bound = λ s. omega (arith, window_steady m.speed s t); reached = (0, window_steady m.speed 0 t) }
 drive_least (Turns p) t = sum_least (pattern_of p) (pair_sound p) t
 
+-- the closed formula by the frame of a pair
+pub closed_at : (p : Pair) (t : ℕ) → closed (pattern_of p) t ≡ t / p.frame * cycles (pattern_of p) + piece (pattern_of p) (t % p.frame)
+unfolding closed
+closed_at p t = ap (λ v. t / v * cycles (pattern_of p) + piece (pattern_of p) (t % v)) p.whole
+
 pub sum_is_closed : (p : Pair) (t : ℕ) → least_sum (pattern_of p) t ≡ closed (pattern_of p) t
 sum_is_closed p t = sum_closed (pattern_of p) (pair_sound p) t
 
@@ -234,6 +239,9 @@ least_at p t =
 
 pub least_below : (p : Pair) (t : ℕ) → least_sum (pattern_of p) t ≤ top_speed * t
 least_below p t = le_trans ((sum_lawful (pattern_of p) (pair_sound p)).below t) (mul-le-mul_right t p.high.slow)
+
+pub closed_below : (p : Pair) (t : ℕ) → closed (pattern_of p) t ≤ top_speed * t
+closed_below p t = rw (sym (sum_is_closed p t)) (least_below p t)
 
 -- the cycles of a frame, and the least of less than one, by the closed formula
 pub frame_is_cycles : (p : Pair) → window (speed (pattern_of p)) 0 p.frame ≡ cycles (pattern_of p)

@@ -1,4 +1,4 @@
-use Rattle.std.proofs.Common.{◌≡◌, ℕ, ◌<◌, ◌≤◌, [], length, get_or, refl, ⊎_elim, arith, below_more, eq-eqb, eqb-true}
+use Rattle.std.proofs.Common.{◌≡◌, ℕ, ◌<◌, ◌≤◌, [], length, get_or, ⊎_elim, arith, below_more, eq-eqb, eqb-true}
 use Rattle.std.proofs.lemmas.Bool.{cases_lt}
 use Rattle.processor.specs.Drives.{peak}
 use Rattle.demand.specs.Charges.{charges}
@@ -52,9 +52,3 @@ returns-in-groups g c =
       (λ e. let z : ◌≡◌ {A = ℕ} 0 1 = cc in absurd (omega arith)),
       (λ f. absurd (failing (g.P.Platform.supply c.args.self.now.platform.now c.args.drive.now) gs c.groups.group c.points.index c.points.invariant (omega arith) (omega arith) (x.1 f))),
     )
-
-pub returns : goal.returns
-returns g c =
-    let x = g.met.Q.Policy.exact c.args.self.now.policy.now c.args.self.now.set.now c.args.self.now.limits c.args.self.now.spanned (peak c.args.drive.now) (g.P.Platform.supply c.args.self.now.platform.now c.args.drive.now) (g.met.P.Platform.lawful c.args.self.now.platform.now c.args.drive.now) in
-    let s = g.met.Q.Policy.few c.args.self.now.policy.now c.args.self.now.set.now c.args.self.now.limits c.args.self.now.spanned (peak c.args.drive.now) in
-    ((λ e. x.0 (λ k l. c.groups.invariant k (omega arith))), (λ f. refl))

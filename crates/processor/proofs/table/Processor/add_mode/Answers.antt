@@ -1,4 +1,4 @@
-use Rattle.std.proofs.Common.{List, is_some, vec_items, sym, refl, ap, ◌∙◌, subst, arith, rules}
+use Rattle.std.proofs.Common.{List, is_some, vec_items, sym, ap, ◌∙◌, subst, arith}
 use Rattle.processor.specs.Kept.{ModesDiffer, Between}
 use Rattle.processor.specs.declared.mode.Mode.{Mode}
 use Rattle.processor.proofs.Growth.{room_for_mode, modes_more, between_more}
@@ -26,14 +26,4 @@ invariant_of-self c =
       frames_few = s.frames_few;
       frames_apart = s.frames_apart;
       frames_fit = s.frames_fit;
-    }
-
-pub returns : goal.returns
-returns c =
-    record {
-      answer = search rules;
-      listed = (_, refl, refl, refl, c.push_reserved.ensures.items);
-      switches = search rules;
-      frames = search rules;
-      same = tt;
     }

@@ -1,4 +1,4 @@
-use Rattle.std.proofs.Common.{◌≡◌, true, List, is_some, vec_items, sym, refl, ap, ◌∙◌, subst, arith, rules}
+use Rattle.std.proofs.Common.{◌≡◌, true, List, is_some, vec_items, sym, ap, ◌∙◌, subst, arith}
 use Rattle.processor.specs.Kept.{SwitchesDiffer, Between}
 use Rattle.processor.specs.declared.mode.Switch.{Switch}
 use Rattle.processor.proofs.Growth.{has_mode_limits, room_for_switch, switches_more, listed_mode}
@@ -44,14 +44,4 @@ invariant_of-self c =
       frames_few = s.frames_few;
       frames_apart = s.frames_apart;
       frames_fit = s.frames_fit;
-    }
-
-pub returns : goal.returns
-returns c =
-    record {
-      answer = search rules;
-      listed = (_, refl, refl, refl, c.push_reserved.ensures.items);
-      modes = search rules;
-      frames = search rules;
-      same = tt;
     }
