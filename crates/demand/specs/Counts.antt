@@ -38,11 +38,6 @@ due_within D T t k h =
 pub sum_charged : (f : Charged → ℕ) (top : ℕ) (ts : List Task) → sum_by f (charges top ts) ≡ sum_by (λ t. f (charge top t)) ts
 sum_charged f top ts = fold-map (λ a c. a + f c) (charge top) 0 ts
 
--- no drive is faster than the fastest mode may be
-pub peak_limit : (d : Drive) → peak d ≤ top_speed
-peak_limit (Fixed m) = m.slow
-peak_limit (Turns p) = p.high.slow
-
 pub charge_le : (top : ℕ) (t : Task) → top ≤ top_speed → (charge top t).cycles ≤ most_charge
 charge_le top t h = let m : t.fixed * top ≤ longest_fixed * top_speed = mul-le-mul t.brief h in omega (arith, t.light)
 

@@ -21,7 +21,7 @@ impl TryFrom<Figures> for Task {
         if rank < 1 || rank > LAST_RANK {
             return Err(Refusal::TaskFigure);
         }
-        if cycles < 1 || cycles > MOST_CYCLES || fixed > LONGEST_FIXED {
+        if !Task::takes(cycles, fixed) {
             return Err(Refusal::TaskFigure);
         }
         if period > LONGEST_PERIOD || deadline < 1 || deadline > period {

@@ -28,5 +28,5 @@ pub(crate) fn nth_listed<F: Fn(&Task) -> Option<Times>>(
             left -= count;
         }
     }
-    if left == 0 { Some(end) } else { None }
+    (left == 0).then_some(end)
 }

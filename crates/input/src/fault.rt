@@ -87,6 +87,17 @@ pub enum Unread {
     Memory,
 }
 
+impl fmt::Display for Unread {
+    fn fmt<W: fmt::Write>(&self, f: &mut fmt::Formatter<W>) -> fmt::Result {
+        match self {
+            Unread::Faulty(fault) => write!(f, "{fault}"),
+            Unread::Memory => f.write_str("there is not enough memory"),
+        }
+    }
+}
+
+impl Error for Unread {}
+
 impl From<Fault> for Unread {
     ghost from_gives = { λ f r. r ≡ Faulty f };
 

@@ -12,7 +12,7 @@ use rfc4180::records::{field, next_record};
 pub const LONGEST_FILE: usize = 65_536;
 
 // A record of one of the files, numbered from the header, which is 0.
-#[derive(Clone, Copy, Debug)]
+#[derive(Clone, Copy, PartialEq, Eq, Debug)]
 pub struct Line<'a> {
     pub file: &'a [u8],
     pub source: Source,

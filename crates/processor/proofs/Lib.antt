@@ -1,4 +1,3 @@
-pub mod Products
 pub mod Gains
 pub mod Intervals
 pub mod Listed

@@ -100,6 +100,3 @@ module _ (t : Processor) (low high low_time high_time frame : ℕ) (differ : low
       → (d : Drive) → Candidate t d → Named low high low_time high_time d → ⊥
   none_named none (Fixed m) c (a, b, e, f) = differ (sym a ∙ b)
   none_named none (Turns p) c (a, b, e, f) = none p (c, a, b, omega (arith, p.whole)) f
-
-  pub named : (s : Splits) (p : Pair) → SplitOf s high_time p → OnFrame t frame low high p → Candidate t (Turns p) × Named low high low_time high_time (Turns p)
-  named s p (f, g, h, i, k, l, m) (c, a, b, e) = (c, (a, b, omega (arith, p.whole), l))

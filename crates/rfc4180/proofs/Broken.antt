@@ -9,8 +9,8 @@ use Rattle.rfc4180.specs.declared.scan.After.{After}
 use Rattle.rfc4180.specs.declared.scan.Found.{Found}
 use Rattle.rfc4180.proofs.Cuts.{cut_first, cut_two}
 use Rattle.rfc4180.proofs.Ends.{PlainEnd, QuotedEnd}
-use Rattle.rfc4180.proofs.Fields.{plain_stop, quoted_stop, plain_ends, quoted_part_ends, quote_plain, quote_quotable, first_text, after_plain, after_within}
-use Rattle.rfc4180.proofs.Stops.{QuotedStop, quoted_same, head_is, tail_is}
+use Rattle.rfc4180.proofs.Fields.{plain_stop, quoted_stop, plain_ends, quoted_part_ends, quote_plain, first_text, after_plain, after_within}
+use Rattle.rfc4180.proofs.Stops.{QuotedStop, quote_quotable, quoted_same, head_is, tail_is}
 
 last_text : (xs : List ℕ) (c : ℕ) (more : List ℕ) → Plain ((xs ++ c ∷ []) ++ more) → Text c
 last_text [] c more (text h p) = h

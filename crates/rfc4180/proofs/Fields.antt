@@ -10,7 +10,7 @@ use Rattle.rfc4180.specs.declared.scan.After.{After}
 use Rattle.rfc4180.specs.declared.scan.After.TheVariants.{Comma, LineEnd, FileEnd}
 use Rattle.rfc4180.specs.declared.scan.Found.{Found}
 use Rattle.rfc4180.proofs.Cuts.{cut_first, cut_rest}
-use Rattle.rfc4180.proofs.Stops.{PlainStop, QuotedStop, plain_same, quoted_same}
+use Rattle.rfc4180.proofs.Stops.{PlainStop, QuotedStop, quote_quotable, plain_same, quoted_same}
 
 pub plain_stop : (F : List ℕ) (e : ℕ) → (e < length F → Text (get_or F e 0) → ⊥) → PlainStop (drop e F)
 plain_stop F e h =
@@ -59,12 +59,6 @@ after_once F LineEnd FileEnd e h k = absurd (omega arith)
 after_once F FileEnd Comma e h k = absurd (omega arith)
 after_once F FileEnd LineEnd e h k = absurd (omega arith)
 after_once F FileEnd FileEnd e h k = refl
-
-pub quote_quotable : (b : ℕ) → b ≡ 34 → Quotable b → ⊥
-quote_quotable b e (inl (l, h, q, c)) = q e
-quote_quotable b e (inr (inl h)) = omega arith
-quote_quotable b e (inr (inr (inl h))) = omega arith
-quote_quotable b e (inr (inr (inr h))) = omega arith
 
 -- a closing quote ends what stands between quotes
 pub closing_stop : (F : List ℕ) (a : After) (e : ℕ) → get_or F e 0 ≡ 34 → Follows a F (e + 1) → QuotedStop (drop e F)

@@ -33,11 +33,12 @@ plain_same (x ∷ xs) (y ∷ ys) us vs (text h p) (text k q) e s t =
     let z : x ≡ y = head_is e in
     cc
 
-quote_alone : (b : ℕ) → Quotable b → b ≡ 34 → ⊥
-quote_alone b (inl (l, h, q, c)) e = q e
-quote_alone b (inr (inl h)) e = omega arith
-quote_alone b (inr (inr (inl h))) e = omega arith
-quote_alone b (inr (inr (inr h))) e = omega arith
+-- a quote may not stand alone between quotes
+pub quote_quotable : (b : ℕ) → b ≡ 34 → Quotable b → ⊥
+quote_quotable b e (inl (l, h, q, c)) = q e
+quote_quotable b e (inr (inl h)) = omega arith
+quote_quotable b e (inr (inr (inl h))) = omega arith
+quote_quotable b e (inr (inr (inr h))) = omega arith
 
 stop_byte : (us : List ℕ) (b : ℕ) (vs : List ℕ) → us ≡ b ∷ vs → QuotedStop us → Quotable b → ⊥
 stop_byte us b [] e s h = let f : QuotedStop (b ∷ []) = rw e at s in f h
@@ -57,8 +58,8 @@ quoted_same us vs (byte {b = b} {bs = bs} h p) (byte {b = d} {bs = ds} k q) e s 
     let r : bs ≡ ds = quoted_same us vs p q (tail_is e) s t in
     let z : b ≡ d = head_is e in
     cc
-quoted_same us vs (byte {b = b} h p) (pair {b = d} k l q) e s t = absurd (quote_alone b h (head_is e ∙ k))
-quoted_same us vs (pair {b = b} k l p) (byte {b = d} h q) e s t = absurd (quote_alone d h (sym (head_is e) ∙ k))
+quoted_same us vs (byte {b = b} h p) (pair {b = d} k l q) e s t = absurd (quote_quotable b (head_is e ∙ k) h)
+quoted_same us vs (pair {b = b} k l p) (byte {b = d} h q) e s t = absurd (quote_quotable d (sym (head_is e) ∙ k) h)
 quoted_same us vs (pair {b = b} {c = c} {bs = bs} h k p) (pair {b = d} {c = f} {bs = ds} i j q) e s t =
     let r : bs ≡ ds = quoted_same us vs p q (tail_is (tail_is e)) s t in
     let y : b ≡ d = head_is e in

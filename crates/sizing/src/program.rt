@@ -4,7 +4,6 @@ use demand::policy::Policy;
 use input::fault::{Fault, Source};
 use input::line::LONGEST_FILE;
 use input::shown::fault_text;
-use report::{LONGEST_LINE, write};
 use std::fs::File;
 use std::io::{Read, Write};
 use std::{env, io};
@@ -56,7 +55,7 @@ fn explain(rt: &HostRuntime, path: &str, fault: &Fault, text: Option<&[u8]>) -> 
         rt.stderr().write_all(b", found ")?;
         rt.stderr().write_all(bytes)?;
     }
-    eprintln!(rt; "")?;
+    eprintln!(rt)?;
     Ok(())
 }
 
@@ -67,9 +66,7 @@ fn print_fault(
     processor: &InputFile,
     tasks: &InputFile,
 ) -> anyhow::Result<()> {
-    let mut buffer = [0; LONGEST_LINE];
-    let end = write(&mut buffer, 0, &fault_line(fault)).unwrap();
-    rt.stdout().write_all(&buffer[..end])?;
+    print!(rt; "{}", fault_line(fault))?;
     let file = match fault.file {
         Source::Processor => processor,
         Source::Tasks => tasks,

@@ -53,10 +53,11 @@ module _ {top : ℕ} {Z : ℕ → ℕ} (laws : Lawful top Z) where
     below = λ t. rw (held d t) (le_trans (laws.below (t - d)) (mul-le-mul_left top (omega arith)));
   }
 
-peak_small : (d : Drive) → peak d ≤ top_speed
-peak_small (Fixed m) = m.slow
-peak_small (Turns p) = p.high.slow
+-- no drive is faster than the fastest mode may be
+pub peak_limit : (d : Drive) → peak d ≤ top_speed
+peak_limit (Fixed m) = m.slow
+peak_limit (Turns p) = p.high.slow
 
 -- what a platform answers is no more than the top speed over the longest window
 pub answer_small : (d : Drive) (Z : ℕ → ℕ) → Lawful (peak d) Z → (t x : ℕ) → Ok x ≡ answer_of Z t → x ≤ top_speed * longest_window
-answer_small d Z laws t x e = grind (arith, nat_tests, laws.below t, mul-le-mul_right t (peak_small d))
+answer_small d Z laws t x e = grind (arith, nat_tests, laws.below t, mul-le-mul_right t (peak_limit d))

@@ -2,7 +2,8 @@ use Rattle.std.proofs.Common.{◌≡◌, ◌+◌, ap₂, arith, rules}
 use Rattle.processor.specs.Drives.{peak}
 use Rattle.demand.specs.Charges.{charges}
 use Rattle.demand.specs.Demand.{above, taken_cycles}
-use Rattle.demand.specs.Counts.{peak_limit, sum_charged, above_le}
+use Rattle.demand.specs.Counts.{sum_charged, above_le}
+use Rattle.supply.specs.LayersLemmas.{peak_limit}
 use Rattle.demand.proofs.fp.taken_cycles.Goals as goal
 
 summed : (c : goal.After-charge) → c.sum-above.result ≡ above c.args.task.now.rank (charges (peak c.args.drive.now) c.args.tasks.now) c.args.window

@@ -2,7 +2,7 @@ use Rattle.std.proofs.Common.{vec_items, Option, sym, ap, ◌∙◌, subst, arit
 use Rattle.processor.specs.Candidates.{Candidate, Named}
 use Rattle.processor.specs.Tables.{mode_of}
 use Rattle.processor.specs.declared.drive.Drive.{Drive}
-use Rattle.processor.proofs.Streams.{found_number, none_named, named}
+use Rattle.processor.proofs.Streams.{found_number, none_named}
 use Rattle.processor.proofs.table.Processor.candidate.Goals as goal
 
 pub returns-then-low-high : goal.returns-then-low-high
@@ -22,11 +22,3 @@ returns-in_err-pair c =
     subst C (sym c.from_residual-in_err-pair.ensures)
     (none_named t c.args.low c.args.high c.args.low_time c.args.high_time c.in_ok-frame.frame c.if-low-high.false c.in_ok-frame.ensures.1
     (λ p o e. c.in_err-pair.ensures (let w = (s.0 p o).0 in (omega (arith, w.0), omega (arith, w.1)))))
-
-pub returns : goal.returns
-returns c =
-    let t = c.args.self.now in
-    let s = c.in_ok-splits.ensures in
-    named t c.args.low c.args.high c.args.low_time c.args.high_time c.in_ok-frame.frame c.if-low-high.false c.in_ok-frame.ensures.1
-    c.in_ok-splits.splits c.in_ok-pair.pair c.in_ok-pair.ensures
-    (s.1 c.args.high_time c.in_ok-pair.pair c.in_ok-pair.ensures)
