@@ -4,9 +4,6 @@ use Rattle.std.proofs.Common.{arith, add-mul, mul-le-mul, mul-le-mul_left, mul-l
 use Rattle.std.proofs.lemmas.Nat.{div_below}
 use Rattle.std.proofs.lemmas.Bool.Decides.{nat_tests}
 use Rattle.processor.specs.Limits.{top_speed}
-use Rattle.processor.specs.Drives.{peak}
-use Rattle.processor.specs.declared.drive.Drive.{Drive}
-use Rattle.processor.specs.declared.drive.Drive.TheVariants.{Fixed, Pair as Turns}
 use Rattle.std.proofs.lemmas.List.Folds.{fold-map}
 use Rattle.std.proofs.lemmas.List.Sums.{sum_by-le}
 use Rattle.demand.specs.Limits.{longest_fixed, longest_period, most_charge}

@@ -24,17 +24,13 @@ fn refuses(
     heap: Global,
     file: &[u8],
     fault: Fault,
-    text: &[u8],
+    text: Option<&[u8]>,
 ) -> Result<(), Fail> {
-    match fault_text(file, b"", &fault) {
-        Some(found) => assert!(rt; found == text),
-        None => assert!(rt; text.is_empty()),
-    }
-    match read_processor(heap, file) {
-        Err(Unread::Faulty(found)) => assert_eq!(rt; found, fault),
-        Err(Unread::Memory) => return Err(Fail::new("no memory")),
-        Ok(_) => return Err(Fail::new("a table")),
-    }
+    assert!(rt; fault_text(file, b"", &fault) == text);
+    assert_eq!(rt;
+        read_processor(heap, file).err(),
+        Some(Unread::Faulty(fault))
+    );
     Ok(())
 }
 
@@ -46,70 +42,70 @@ fn records(rt: HostRuntime) -> Result<(), Fail> {
         heap,
         &[b'a'; 65_537],
         fault(Layer::Bytes, Refusal::FileTooLong, 0, 0),
-        b"",
+        None,
     )?;
     refuses(
         &rt,
         heap,
         b"",
         fault(Layer::Records, Refusal::HeaderDiffers, 0, 0),
-        b"",
+        None,
     )?;
     refuses(
         &rt,
         heap,
         b"kind,a,\"b",
         fault(Layer::Records, Refusal::NotCsv, 0, 3),
-        b"\"b",
+        Some(b"\"b"),
     )?;
     refuses(
         &rt,
         heap,
         b"kind,a,b,d\r\n",
         fault(Layer::Records, Refusal::HeaderDiffers, 0, 0),
-        b"",
+        None,
     )?;
     refuses(
         &rt,
         heap,
         b"kind,a,b,c\r\n",
         fault(Layer::Table, Refusal::NoMode, 0, 0),
-        b"",
+        None,
     )?;
     refuses(
         &rt,
         heap,
         b"kind,a,b,c\r\n\r\n",
         fault(Layer::Records, Refusal::FieldCount, 1, 0),
-        b"",
+        None,
     )?;
     refuses(
         &rt,
         heap,
         b"kind,\"a\",b,c\r\nmode,1,2,3\r\nfan,x,x,x",
         fault(Layer::Numbers, Refusal::UnknownKind, 2, 1),
-        b"fan",
+        Some(b"fan"),
     )?;
     refuses(
         &rt,
         heap,
         b"kind,a,b,c\r\nframe,x,,\"1\"",
         fault(Layer::Numbers, Refusal::FrameFieldFilled, 1, 4),
-        b"1",
+        Some(b"1"),
     )?;
     refuses(
         &rt,
         heap,
         b"kind,a,b,c\r\nframe,,\"\",\r\n",
         fault(Layer::Numbers, Refusal::NotANumber, 1, 2),
-        b"",
+        Some(b""),
     )?;
     refuses(
         &rt,
         heap,
         b"kind,a,b,c\r\nswitch,1,x\t",
         fault(Layer::Records, Refusal::NotCsv, 1, 3),
-        b"x",
+        Some(b"x"),
     )
 }
 
@@ -129,7 +125,7 @@ fn table_refuses(
         heap,
         file.as_slice(),
         fault(Layer::Table, cause, 3, field),
-        text,
+        Some(text),
     )
 }
 
@@ -179,7 +175,7 @@ fn table(rt: HostRuntime) -> Result<(), Fail> {
         heap,
         twice,
         fault(Layer::Table, Refusal::FrameRepeated, 2, 2),
-        b"5",
+        Some(b"5"),
     )?;
     let back = b"kind,a,b,c\r\nmode,1,1,1\r\nmode,2,1,1\r\nswitch,1,2,3\r\nswitch,1,2,99999";
     refuses(
@@ -187,7 +183,7 @@ fn table(rt: HostRuntime) -> Result<(), Fail> {
         heap,
         back,
         fault(Layer::Table, Refusal::SwitchRepeated, 4, 3),
-        b"2",
+        Some(b"2"),
     )?;
     let nine =
         b"kind,a,b,c\r\nframe,1,,\r\nframe,2,,\r\nframe,3,,\r\nframe,4,,\r\nframe,5,,\r\nframe,6,,\r\nframe,7,,\r\nframe,8,,\r\nframe,9,,";
@@ -196,7 +192,7 @@ fn table(rt: HostRuntime) -> Result<(), Fail> {
         heap,
         nine,
         fault(Layer::Table, Refusal::NinthFrame, 9, 2),
-        b"9",
+        Some(b"9"),
     )
 }
 
@@ -204,17 +200,13 @@ fn table(rt: HostRuntime) -> Result<(), Fail> {
 fn tasks(rt: HostRuntime) -> Result<(), Fail> {
     let heap = rt.alloc();
     let file = b"rank,cycles,fixed,period,deadline\r\n4294967295,0000000001,\"2\",3,4\r\n5,6,7,8,9";
-    match read_tasks(heap, file) {
-        Ok(read) => {
-            assert!(rt; read.len() == 2);
-            assert_eq!(rt; read[0].rank, u32::MAX);
-            assert_eq!(rt; read[0].cycles, 1);
-            assert_eq!(rt; read[0].fixed, 2);
-            assert_eq!(rt; read[1].period, 8);
-            assert_eq!(rt; read[1].deadline, 9);
-        }
-        Err(_) => return Err(Fail::new("refused")),
-    }
+    let read = read_tasks(heap, file)?;
+    assert!(rt; read.len() == 2);
+    assert_eq!(rt; read[0].rank, u32::MAX);
+    assert_eq!(rt; read[0].cycles, 1);
+    assert_eq!(rt; read[0].fixed, 2);
+    assert_eq!(rt; read[1].period, 8);
+    assert_eq!(rt; read[1].deadline, 9);
     let fault = Fault {
         layer: Layer::Numbers,
         cause: Refusal::NotANumber,
@@ -224,11 +216,7 @@ fn tasks(rt: HostRuntime) -> Result<(), Fail> {
     };
     let file = b"rank,cycles,fixed,period,deadline\r\n4294967295,0,0000000000,4294967296,-";
     assert!(rt; fault_text(b"", file, &fault) == Some(b"4294967296"));
-    match read_tasks(heap, file) {
-        Err(Unread::Faulty(found)) => assert_eq!(rt; found, fault),
-        Err(Unread::Memory) => return Err(Fail::new("no memory")),
-        Ok(_) => return Err(Fail::new("figures")),
-    }
+    assert_eq!(rt; read_tasks(heap, file).err(), Some(Unread::Faulty(fault)));
     let shown = format!(in heap; "{fault}")?;
     assert!(rt;
         shown.as_str() == "record 1, field 4: expected one to ten digits, at most 4294967295"

@@ -1,5 +1,5 @@
 -- The answers of an admission, by what the table and the search say.
-use Rattle.std.proofs.Common.{◌≡◌, ℕ, ◌+◌, ◌<◌, ◌≤◌, Bool, true, false, cond, ltb, List, [], ◌∷◌, ◌++◌, length, Some, None, Ok, Err, vec_items, Option, Result, sym, refl, ap, ◌∙◌, subst, inl, inr, arith, le-ltb, lt-ltb, eq-eqb}
+use Rattle.std.proofs.Common.{is_some, MatchOption, ◌≡◌, ℕ, ◌+◌, ◌<◌, ◌≤◌, Bool, true, false, cond, ltb, List, [], ◌∷◌, ◌++◌, length, Some, None, Ok, Err, vec_items, Option, Result, sym, refl, ap, ◌∙◌, subst, inl, inr, arith, le-ltb, lt-ltb, eq-eqb}
 use Rattle.processor.specs.Candidates.{Candidate}
 use Rattle.processor.specs.Tables.{mode_of}
 use Rattle.processor.specs.declared.mode.Mode.{Mode}
@@ -79,3 +79,8 @@ some_candidate t h = front (vec_items t.modes) h
     front : (ms : List Mode) → 0 < length ms → (m : Mode) × (mode_of m.number ms ≡ Some m)
     front [] l = absurd (omega arith)
     front (m ∷ ms) l = (m, let e = eq-eqb m.number m.number refl in rw e)
+
+-- there is a value where the case without one can't be
+pub some_unless : {X : Type 0} (o : Option X) (P : Type 0) (Q : X → Type 0) → MatchOption o P Q → (P → ⊥) → is_some o ≡ true
+some_unless None P Q m never = absurd (never m)
+some_unless (Some x) P Q m never = refl

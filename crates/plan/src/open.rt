@@ -41,12 +41,8 @@ impl Opening {
         ensures sound { Sound result.processor (Q.Policy.span result.policy) (Feasible (P.Platform.supply result.platform) (Q.Policy.full result.policy)) result.table.set result.drive }
     {
         let Opening { processor, table } = self;
-        let Some(trial) = Trial::new(&platform, &policy, table.set()) else {
-            unreachable()
-        };
-        let Some(drive) = cheapest(&processor, &trial) else {
-            unreachable()
-        };
+        let trial = Trial::new(&platform, &policy, table.set()).unwrap();
+        let drive = cheapest(&processor, &trial).unwrap();
         Plan::over(processor, platform, policy, table, drive)
     }
 }

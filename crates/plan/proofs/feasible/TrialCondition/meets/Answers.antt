@@ -9,7 +9,7 @@ use Rattle.plan.proofs.feasible.TrialCondition.meets.Goals as goal
 pub groups-preserved : goal.groups-preserved
 groups-preserved g c =
     let gs = g.Q.Policy.groups c.args.self.now.policy.now (charges (peak c.args.drive.now) c.args.self.now.set.now) in
-    let i : c.points.index < length (get_or gs c.groups.group []) = within _ _ _ c.in-Some.ensures.beyond in
+    let i : c.points.index < length (get_or gs c.groups.group []) = within (length (get_or gs c.groups.group [])) c.points.index (c.in-Some.time, c.in-Some.work) c.in-Some.ensures.beyond in
     below_more _ _ c.groups.invariant (
       c.points.index,
       i,
@@ -20,7 +20,7 @@ groups-preserved g c =
 pub points-preserved : goal.points-preserved
 points-preserved g c =
     let gs = g.Q.Policy.groups c.args.self.now.policy.now (charges (peak c.args.drive.now) c.args.self.now.set.now) in
-    let i : c.points.index < length (get_or gs c.groups.group []) = within _ _ _ c.in-Some.ensures.beyond in
+    let i : c.points.index < length (get_or gs c.groups.group []) = within (length (get_or gs c.groups.group [])) c.points.index (c.in-Some.time, c.in-Some.work) c.in-Some.ensures.beyond in
     below_more _ _ c.points.invariant (
       i,
       uncovered (g.P.Platform.supply c.args.self.now.platform.now c.args.drive.now) (point gs c.groups.group c.points.index) c.in-Some.time c.in-Some.work c.covers.result
@@ -32,7 +32,7 @@ pub returns-in_default : goal.returns-in_default
 returns-in_default g c =
     let gs = g.Q.Policy.groups c.args.self.now.policy.now (charges (peak c.args.drive.now) c.args.self.now.set.now) in
     let n : length (get_or gs c.groups.group []) ≤ c.points.index =
-    beyond _ _ (point gs c.groups.group c.points.index) c.point.result c.in_default.is c.point.ensures.within in
+    beyond (length (get_or gs c.groups.group [])) c.points.index (point gs c.groups.group c.points.index) c.point.result c.in_default.is c.point.ensures.within in
     let x = g.met.Q.Policy.exact c.args.self.now.policy.now c.args.self.now.set.now c.args.self.now.limits c.args.self.now.spanned (peak c.args.drive.now) (g.P.Platform.supply c.args.self.now.platform.now c.args.drive.now) (g.met.P.Platform.lawful c.args.self.now.platform.now c.args.drive.now) in (
       (λ e.
           let z = eqb-true c.points.index 0 e in
