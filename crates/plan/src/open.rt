@@ -1,4 +1,4 @@
-ghost use Rattle.std.specs.Prelude.{◌≡◌, ◌⊎◌, [], MatchResult};
+ghost use Rattle.std.specs.Prelude.{◌≡◌, ◌<◌, ◌⊎◌, [], length, MatchResult};
 ghost use Rattle.processor.specs.declared.refusal.Refusal.TheVariants.{NoMode, Memory};
 ghost use Rattle.plan.specs.Admitting.{Sound};
 ghost use Rattle.plan.specs.Feasible.{Feasible};
@@ -17,7 +17,7 @@ use supply::platform::Platform;
 impl Opening {
     // Whether a plan may be opened; where it may not, why, and the processor back.
     pub fn new(heap: Global, processor: Processor) -> Result<Opening, Refused<Processor>>
-        ensures { MatchResult result (λ o. o.processor ≡ processor) (λ u. (u.value ≡ processor) × (((u.refusal ≡ NoMode) × (processor.modes.items ≡ [])) ⊎ (u.refusal ≡ Memory))) }
+        ensures { MatchResult result (λ o. o.processor ≡ processor) (λ u. (u.value ≡ processor) × (((u.refusal ≡ NoMode) × (processor.modes.items ≡ [])) ⊎ ((u.refusal ≡ Memory) × (0 < length processor.modes.items)))) }
     {
         if !processor.has_mode() {
             return Err(Refused {

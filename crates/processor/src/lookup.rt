@@ -1,5 +1,5 @@
 ghost use Rattle.std.specs.Prelude.{◌≡◌, ℕ, [], length, filter, max, MatchOption, nat_lt};
-ghost use Rattle.std.specs.List.{reduce};
+ghost use Rattle.std.specs.List.{reduce, slice_get};
 ghost use Rattle.processor.specs.Candidates.{Candidate, Named, OnFrame};
 ghost use Rattle.processor.specs.Intervals.{Within, SplitOf};
 ghost use Rattle.processor.specs.declared.drive.Pair.{Pair};
@@ -28,7 +28,8 @@ impl Processor {
 
     // The mode that was listed first.
     pub fn first_mode(&self) -> Option<Mode>
-        ensures { MatchOption result (self.now.modes.items ≡ []) (λ m. Candidate self.now (Fixed m)) }
+        ensures listed { MatchOption result (self.now.modes.items ≡ []) (λ m. Candidate self.now (Fixed m)) }
+        ensures first { result ≡ slice_get self.now.modes.items 0 }
     {
         self.modes.first().copied()
     }

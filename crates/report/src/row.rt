@@ -33,7 +33,8 @@ pub fn write<R: Row>(buffer: &mut [u8], at: usize, row: &R) -> Result<usize, Ref
     Ok(end)
 }
 
-// A text, a number and then more numbers, each after a comma, and the line end.
+// A text, a number and then more numbers, each after a comma, and the line end. A number of 32 bits has at most ten digits,
+// and with a comma takes eleven bytes; the first number and the line end take twelve of the hundred.
 pub(crate) fn row_text(head: &str, first: u32, more: &[u32]) -> ArrayString<LONGEST_LINE>
     requires { length head.now + 11 * length more.now ≤ 88 }
     ensures { result.bytes ≡ row_text head.now first more.now }
