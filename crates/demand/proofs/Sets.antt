@@ -1,11 +1,17 @@
 -- What an edit leaves of a set of tasks: its ranks, and its figures.
-use Rattle.std.proofs.Common.{◌≡◌, ◌==◌, ℕ, zero, suc, ◌<◌, false, List, [], ◌∷◌, ◌++◌, map, length, get_or, take, set, sym, refl, ap, ◌∙◌, arith, length-take, get_or-take, eq-eqb}
+use Rattle.std.proofs.Common.{◌≡◌, ◌==◌, ℕ, zero, suc, ◌+◌, ◌*◌, ◌<◌, false, List, [], ◌∷◌, ◌++◌, map, length, get_or, take, set, vec_items, sym, refl, ap, ◌∙◌, arith, length-take, get_or-take, eq-eqb}
 use Rattle.std.proofs.Math.ListN.{length-set}
+use Rattle.std.proofs.Math.Seq.{map-set_same}
+use Rattle.std.proofs.lemmas.Simd.{map-map}
 use Rattle.std.proofs.lemmas.List.Folds.{list_any_at}
 use Rattle.std.proofs.lemmas.List.Quantifiers.{all_pairs_push}
+use Rattle.demand.specs.declared.set.TaskSet.TheInside.{Inside}
+use Rattle.demand.specs.declared.task.Figures.{Figures}
 use Rattle.demand.specs.declared.task.Task.{Task}
-use Rattle.demand.specs.Figures.{figures_of, with_work, no_figures}
-use Rattle.demand.specs.Ranks.{OtherRank, Apart, has_rank}
+use Rattle.demand.specs.Charges.{charges}
+use Rattle.demand.specs.Figures.{figures_of, with_work, no_figures, times_of}
+use Rattle.demand.specs.Ranks.{OtherRank, Apart, Set, has_rank}
+use Rattle.demand.specs.TaskSet.{IsTaskSet}
 
 pub take_apart : (n : ℕ) (ts : List Task) → Apart ts → Apart (take n ts)
 take_apart n ts a i j d l h =
@@ -37,3 +43,28 @@ pub set_apart : (ts : List Task) (i : ℕ) (x y : Task) → i < length ts → x 
 set_apart ts i x y h e f a j k d l b g =
     let m = length-set ts i y in
     a j k d l (omega arith) (sym (rank_set ts i j x y d h e f) ∙ g ∙ rank_set ts i k x y d h e f)
+
+-- ---- a set as it is kept
+
+pub set_is : (s : Inside) → IsTaskSet s → Set (vec_items s.tasks)
+set_is s k = record { few = omega (arith, k.few, s.tasks.ok.0); apart = k.apart }
+
+-- ---- what reads only the figures
+
+pub by_figures : {X : Type 0} (f : Figures → X) (ts us : List Task) → map figures_of ts ≡ map figures_of us
+    → map (λ t. f (figures_of t)) ts ≡ map (λ t. f (figures_of t)) us
+by_figures f ts us e = sym (map-map f figures_of ts) ∙ ap (map f) e ∙ map-map f figures_of us
+
+pub charges_figures : (top : ℕ) (ts us : List Task) → map figures_of ts ≡ map figures_of us → charges top ts ≡ charges top us
+charges_figures top ts us e =
+    by_figures (λ f. record { rank = f.rank; cycles = f.cycles + f.fixed * top; period = f.period; deadline = f.deadline }) ts us e
+
+abbrev times : Figures → ℕ × ℕ × ℕ
+times f = (f.rank, f.period, f.deadline)
+
+-- other work leaves ranks, periods and deadlines
+pub revised_times : (ts us : List Task) (i n m : ℕ) → map figures_of us ≡ set (map figures_of ts) i (with_work n m (get_or (map figures_of ts) i no_figures))
+    → map times_of us ≡ map times_of ts
+revised_times ts us i n m e =
+    let fs = map figures_of ts in
+    sym (map-map times figures_of us) ∙ ap (map times) e ∙ map-set_same times fs i (with_work n m (get_or fs i no_figures)) no_figures refl ∙ map-map times figures_of ts

@@ -31,6 +31,13 @@ due_within D T t k h =
     let l = q.0 in
     omega arith
 
+-- the end of the period after k others of a window is within it
+pub turn_within : (T t k : ℕ) → k < t / T → (k + 1) * T ≤ t
+turn_within T t k h =
+    let a = div-mul-le_self t T in
+    let m : (k + 1) * T ≤ t / T * T = mul-le-mul_right T (omega arith) in
+    omega arith
+
 -- a sum over charged tasks
 pub sum_charged : (f : Charged → ℕ) (top : ℕ) (ts : List Task) → sum_by f (charges top ts) ≡ sum_by (λ t. f (charge top t)) ts
 sum_charged f top ts = fold-map (λ a c. a + f c) (charge top) 0 ts

@@ -35,7 +35,8 @@ impl Model for TaskSet {
 impl TaskSet {
     // A set of no tasks.
     pub fn new(heap: Global) -> Result<TaskSet, AllocError>
-        ensures { IfOk result (λ s. s ≡ []) }
+        ensures items { IfOk result (λ s. s ≡ []) }
+        ensures set { IfOk result (λ s. Set s) }
     {
         let tasks = Vec::with_capacity(heap, MOST_TASKS)?;
         Ok(TaskSet { tasks })
@@ -60,6 +61,7 @@ impl TaskSet {
     pub fn add(&mut self, task: Task) -> Result<(), Refusal>
         ensures answer { result ≡ (if has_rank task.rank self.old then Err RankTaken else (if ltb (length self.old) most_tasks then Ok tt else Err PlanFull)) }
         ensures items { self.new ≡ (if is_ok result then self.old ++ task ∷ [] else self.old) }
+        ensures set { Set self.new }
     {
         if self.has_rank(task.rank) {
             return Err(Refusal::RankTaken);
@@ -73,7 +75,8 @@ impl TaskSet {
 
     // Takes the newest task out again.
     pub fn drop_newest(&mut self)
-        ensures { self.new ≡ take (length self.old - 1) self.old }
+        ensures items { self.new ≡ take (length self.old - 1) self.old }
+        ensures set { Set self.new }
     {
         let kept = self.tasks.len().saturating_sub(1);
         self.tasks.truncate(kept);
@@ -83,6 +86,7 @@ impl TaskSet {
     pub fn remove(&mut self, i: usize) -> Option<Task>
         ensures answer { MatchOption result (length self.old ≤ i) (λ t. (i < length self.old) × (t ≡ slice_index_or self.old i t)) }
         ensures items { self.new ≡ (if is_some result then remove self.old i else self.old) }
+        ensures set { Set self.new }
     {
         if i >= self.tasks.len() {
             return None;
@@ -94,11 +98,13 @@ impl TaskSet {
     pub fn revise(&mut self, i: usize, cycles: u32, fixed: u32) -> Result<bool, Refusal>
         ensures answer { MatchResult result (λ b. Work cycles fixed × (b ≡ nat_lt i (length self.old))) (λ e. (e ≡ TaskFigure) × (Work cycles fixed → ⊥)) }
         ensures rows { map figures_of self.new ≡ (if is_ok result then slice_set (map figures_of self.old) i (with_work cycles fixed (slice_index_or (map figures_of self.old) i no_figures)) else map figures_of self.old) }
+        ensures set { Set self.new }
     {
+        let count = self.tasks.len();
         if !Task::takes(cycles, fixed) {
             return Err(Refusal::TaskFigure);
         }
-        if i >= self.tasks.len() {
+        if i >= count {
             return Ok(false);
         }
         self.tasks[i].change(cycles, fixed);

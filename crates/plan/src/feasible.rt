@@ -18,6 +18,41 @@ pub trait Condition {
         ensures { Decides result (meets self.now drive.now) };
 }
 
+// Whether the work of a point is supplied by its time.
+fn covers<P: Platform>(platform: &P, drive: &Drive, time: u32, work: u64) -> bool
+    ensures { result ≡ (if nat_lt longest_window time then false else nat_le work (P.Platform.supply platform.now drive.now time)) }
+{
+    platform
+        .supplied(drive, time)
+        .is_ok_and(|cycles| work <= cycles)
+}
+
+// Whether the set meets its deadlines under the drive: each group of the policy's points has one that is supplied.
+pub fn passes<P: Platform, Q: Policy>(
+    platform: &P,
+    policy: &Q,
+    set: &TaskSet,
+    drive: &Drive,
+) -> bool
+    ensures { Q.Policy.span policy.now set.now ≡ true → Decides result (Feasible (P.Platform.supply platform.now) (Q.Policy.full policy.now) set.now drive.now) }
+{
+    // What a set keeps, its tasks show: they are few, and of different ranks.
+    let _tasks = set.tasks();
+    'groups: for group in 0..u32::MAX {
+        'points: for index in 0..u32::MAX {
+            let Some((time, work)) = policy.point(set, drive, group, index) else {
+                // No point is left: the group has failed, unless there is no such group.
+                return index == 0;
+            };
+            if covers(platform, drive, time, work) {
+                continue 'groups;
+            }
+        }
+        return false;
+    }
+    true
+}
+
 // That a set of tasks, one that the policy can decide, meets its deadlines on a platform.
 #[derive(Drop)]
 pub struct Trial<'a, P: Platform, Q: Policy> {
@@ -44,34 +79,12 @@ impl<'a, P: Platform, Q: Policy> Trial<'a, P, Q> {
             set,
         })
     }
-
-    // Whether the work of a point is supplied by its time.
-    fn covers(&self, drive: &Drive, time: u32, work: u64) -> bool
-        ensures { result ≡ (if nat_lt longest_window time then false else nat_le work (P.Platform.supply self.now.platform.now drive.now time)) }
-    {
-        self.platform
-            .supplied(drive, time)
-            .is_ok_and(|cycles| work <= cycles)
-    }
 }
 
 impl<P: Platform, Q: Policy> Condition for Trial<'_, P, Q> {
     ghost meets = { λ t d. Feasible (P.Platform.supply t.platform.now) (Q.Policy.full t.policy.now) t.set.now d };
 
-    // Each group of the policy's points has one that is supplied.
     fn meets(&self, drive: &Drive) -> bool {
-        'groups: for group in 0..u32::MAX {
-            'points: for index in 0..u32::MAX {
-                let Some((time, work)) = self.policy.point(self.set, drive, group, index) else {
-                    // No point is left: the group has failed, unless there is no such group.
-                    return index == 0;
-                };
-                if self.covers(drive, time, work) {
-                    continue 'groups;
-                }
-            }
-            return false;
-        }
-        true
+        passes(self.platform, self.policy, self.set, drive)
     }
 }

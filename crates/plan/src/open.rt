@@ -3,10 +3,9 @@ ghost use Rattle.processor.specs.declared.refusal.Refusal.TheVariants.{NoMode, M
 ghost use Rattle.plan.specs.Admitting.{Sound};
 ghost use Rattle.plan.specs.Feasible.{Feasible};
 
-use crate::feasible::Trial;
 use crate::opening::Opening;
 use crate::plan::Plan;
-use crate::search::cheapest;
+use crate::search::cheapest_feasible;
 use crate::table::TaskTable;
 use demand::policy::Policy;
 use processor::refusal::{Refusal, Refused};
@@ -41,8 +40,7 @@ impl Opening {
         ensures sound { Sound result.processor (Q.Policy.span result.policy) (Feasible (P.Platform.supply result.platform) (Q.Policy.full result.policy)) result.table.set result.drive }
     {
         let Opening { processor, table } = self;
-        let trial = Trial::new(&platform, &policy, table.set()).unwrap();
-        let drive = cheapest(&processor, &trial).unwrap();
+        let drive = cheapest_feasible(&processor, &platform, &policy, table.set()).unwrap();
         Plan::over(processor, platform, policy, table, drive)
     }
 }

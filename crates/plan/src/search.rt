@@ -1,13 +1,16 @@
 ghost use Rattle.std.specs.Prelude.{◌≡◌, ℕ, ◌*◌, ◌<◌, true, false, None, MatchOption};
 ghost use Rattle.processor.specs.Drives.{energy_of, span_of};
-ghost use Rattle.plan.specs.Feasible.{NoDearer, Cheapest, NoCandidate};
+ghost use Rattle.plan.specs.Feasible.{Feasible, NoDearer, Cheapest, NoCandidate};
 ghost use Rattle.plan.specs.Searches.{Improves, Below, FixedAt, PairAt, SplitIn};
 
-use crate::feasible::Condition;
+use crate::feasible::{Condition, Trial};
+use demand::policy::Policy;
+use demand::set::TaskSet;
 use processor::drive::Drive;
 use processor::mode::{LAST_MODE, LONGEST_FRAME};
 use processor::splits::Splits;
 use processor::table::Processor;
+use supply::platform::Platform;
 
 // Whether a drive costs less than the best so far.
 fn is_cheaper(drive: &Drive, best: Option<Drive>) -> bool
@@ -113,4 +116,17 @@ pub fn cheapest<C: Condition>(processor: &Processor, condition: &C) -> Option<Dr
         bound = frame;
     }
     best
+}
+
+// The same of the condition that a set of tasks meets its deadlines, where the policy can decide the set.
+pub fn cheapest_feasible<P: Platform, Q: Policy>(
+    processor: &Processor,
+    platform: &P,
+    policy: &Q,
+    set: &TaskSet,
+) -> Option<Drive>
+    ensures { Q.Policy.span policy.now set.now ≡ true → MatchOption result (NoCandidate processor.now (Feasible (P.Platform.supply platform.now) (Q.Policy.full policy.now) set.now)) (λ d. Cheapest processor.now (Feasible (P.Platform.supply platform.now) (Q.Policy.full policy.now) set.now) d) }
+{
+    let trial = Trial::new(platform, policy, set)?;
+    cheapest(processor, &trial)
 }

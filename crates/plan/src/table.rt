@@ -1,7 +1,7 @@
 ghost use Rattle.std.specs.Prelude.{◌≡◌, ◌-◌, ◌≤◌, [], ◌∷◌, ◌++◌, length, take, is_ok, IfOk, if◌then◌else◌, Ok, Err, vec_len, vec_capacity, nat_lt};
 ghost use Rattle.processor.specs.declared.refusal.Refusal.TheVariants.{RankTaken, PlanFull};
 ghost use Rattle.demand.specs.Limits.{most_tasks};
-ghost use Rattle.demand.specs.Ranks.{has_rank};
+ghost use Rattle.demand.specs.Ranks.{Set, has_rank};
 
 use demand::set::{MOST_TASKS, TaskSet};
 use demand::task::Task;
@@ -15,6 +15,7 @@ pub struct TaskTable {
     set: TaskSet,
     ghost same: { length tickets.items ≡ length set },
     ghost room: { most_tasks ≤ vec_capacity tickets },
+    ghost limits: { Set set },
 }
 
 impl TaskTable {

@@ -1,14 +1,12 @@
 -- What the reader of one field answers, on each of its ways.
-use Rattle.std.proofs.Common.{◌≡◌, ℕ, ◌+◌, ◌-◌, ◌<◌, ◌≤◌, ◌≢◌, ◌⊎◌, Bool, true, false, eqb, List, [], ◌∷◌, length, get_or, take, drop, Some, None, Option, Result, MatchOption, MatchResult, sym, refl, ap, ◌∙◌, subst, inl, inr, arith}
+use Rattle.std.proofs.Common.{◌≡◌, ℕ, ◌+◌, ◌-◌, ◌<◌, ◌≤◌, ◌≢◌, ◌⊎◌, Bool, true, false, eqb, List, [], ◌∷◌, length, get_or, take, drop, sym, refl, ap, ◌∙◌, subst, inl, inr, arith}
 use Rattle.std.proofs.lemmas.List.{length-drop}
 use Rattle.std.specs.List.{starts_with}
-use Rattle.std.specs.Option.{ok_or}
 use Rattle.rfc4180.specs.Grammar.{Text, Quotable, Plain, Quoted}
 use Rattle.rfc4180.specs.Places.{Follows, FieldAt, BrokenAt}
 use Rattle.rfc4180.specs.declared.part.Part.{Part}
 use Rattle.rfc4180.specs.declared.scan.After.{After}
 use Rattle.rfc4180.specs.declared.scan.After.TheVariants.{Comma, LineEnd, FileEnd}
-use Rattle.rfc4180.specs.declared.scan.Found.{Found}
 use Rattle.rfc4180.proofs.Broken.{plain_broken, closed_broken}
 use Rattle.rfc4180.proofs.Cuts.{front_between, rest_is, rest_at, inside_is, first_is}
 use Rattle.rfc4180.proofs.Ends.{PlainEnd, QuotedEnd}
@@ -56,6 +54,12 @@ abbrev pub Ended : List ℕ → ℕ → Part → ℕ → Type 0
 Ended F s p e =
     (PlainEnd F s e × (p.start ≡ s) × (p.end ≡ e))
     ⊎ (QuotedEnd F s p.end × (p.start ≡ s + 1) × (p.end < length F) × (get_or F p.end 0 ≡ 34) × (e ≡ p.end + 1))
+
+pub plain_ended : (F : List ℕ) (s n : ℕ) (rest : List ℕ) → rest ≡ drop s F → s ≤ length F → (0 < length rest → get_or rest 0 0 ≢ 34) → n ≤ length rest → Plain (take n rest) → (n < length rest → Text (get_or rest n 0) → ⊥) → Ended F s (record { start = s; end = s + n }) (s + n)
+plain_ended F s n rest r l u h p t = inl (plain_end F s n rest r l u h p t, refl, refl)
+
+pub quoted_ended : (F : List ℕ) (s n : ℕ) (rest inside : List ℕ) → rest ≡ drop s F → inside ≡ take (length rest - 1) (drop 1 rest) → 1 ≤ length rest → get_or rest 0 0 ≡ 34 → n ≤ length inside → Quoted (take n inside) → (n < length inside → Quotable (get_or inside n 0) → ⊥) → (n + 1 < length inside → get_or inside n 0 ≡ 34 → get_or inside (n + 1) 0 ≢ 34) → (s + 1 + n < length F) × (get_or F (s + 1 + n) 0 ≡ 34) → Ended F s (record { start = s + 1; end = s + 1 + n }) (s + 1 + n + 1)
+quoted_ended F s n rest inside d i l o h p t u q = inr (quoted_end F s n rest inside d i l o h p t u, refl, q.0, q.1, refl)
 
 -- what follows where the rest of a file starts
 follows_here : (F rest : List ℕ) (e : ℕ) (a : After) → rest ≡ drop e F → e ≤ length F → Follows a rest 0 → Follows a F e
@@ -107,6 +111,8 @@ field_broken F s e p (inr (h, i, l, c, j)) u =
     rw j (closed_broken F s p.end h l c v)
 
 -- what the reader answers where the text of a field ends, by what follows there
-pub field_judged : (F rest : List ℕ) (s e : ℕ) (p : Part) (a : Option After) (f : Option Found) (r : Result Found ℕ) → rest ≡ drop e F → Ended F s p e → MatchOption a ((x : After) → Follows x rest 0 → ⊥) (λ x. Follows x rest 0) → MatchOption a (f ≡ None) (λ x. f ≡ Some (record { part = p; end = e; after = x })) → r ≡ ok_or f e → MatchResult r (λ g. FieldAt F s g) (λ i. BrokenAt F s i)
-field_judged F rest s e p None f r d h u m i = rw (i, m) (field_broken F s e p h (λ a k. u a (follows_rest F rest e a d k)))
-field_judged F rest s e p (Some a) f r d h u m i = rw (i, m) (field_read F s e p a h (follows_here F rest e a d (ended_within F s e p h) u))
+pub field_followed : (F rest : List ℕ) (s e : ℕ) (p : Part) (a : After) → rest ≡ drop e F → Ended F s p e → Follows a rest 0 → FieldAt F s (record { part = p; end = e; after = a })
+field_followed F rest s e p a d h u = field_read F s e p a h (follows_here F rest e a d (ended_within F s e p h) u)
+
+pub field_stuck : (F rest : List ℕ) (s e : ℕ) (p : Part) → rest ≡ drop e F → Ended F s p e → ((a : After) → Follows a rest 0 → ⊥) → BrokenAt F s e
+field_stuck F rest s e p d h u = field_broken F s e p h (λ a k. u a (follows_rest F rest e a d k))

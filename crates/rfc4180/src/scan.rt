@@ -24,7 +24,7 @@ pub struct Found {
 fn is_text(byte: u8) -> bool
     ensures { MatchBool result (Text byte) (Text byte → ⊥) }
 {
-    matches!(byte, b' '..=b'!' | b'#'..=b'+' | b'-'..=b'~')
+    matches!(byte, b' '..=b'~') && byte != b'"' && byte != b','
 }
 
 // A byte that may stand alone between quotes.
@@ -97,7 +97,8 @@ pub fn read_field(file: &[u8], at: usize) -> Result<Found, usize>
             (Part { start, end }, end)
         }
     };
-    follower(&file[end..])
-        .map(|after| Found { part, end, after })
-        .ok_or(end)
+    match follower(&file[end..]) {
+        Some(after) => Ok(Found { part, end, after }),
+        None => Err(end),
+    }
 }
