@@ -40,8 +40,7 @@ impl Processor {
     {
         self.modes
             .iter()
-            .find(|mode| mode.number == number)
-            .copied()
+            .find_map(|mode| (mode.number == number).then_some(*mode))
     }
 
     // The time of the switch from one mode to another; without it the switch is impossible.

@@ -1,5 +1,5 @@
-ghost use Rattle.std.specs.Prelude.{◌≡◌};
-ghost use Rattle.processor.specs.Refusals.{refusal_number};
+ghost use Rattle.std.specs.Prelude.{◌≡◌, ◌++◌, Some, codes};
+ghost use Rattle.processor.specs.Refusals.{refusal_number, expected_text};
 ghost use Rattle.processor.specs.declared.refusal.Refusal.TheVariants.{Memory};
 
 use std::alloc::{AllocError, AllocFailed};
@@ -90,47 +90,56 @@ impl Refusal {
             Refusal::Memory => 99,
         }
     }
+
+    // What was expected.
+    pub fn expected(self) -> &'static str
+        ensures { result.now ≡ expected_text self }
+    {
+        match self {
+            Refusal::FileTooLong => "a file of at most 65,536 bytes",
+            Refusal::NotCsv => "CSV by RFC 4180 with CR LF line ends",
+            Refusal::HeaderDiffers => "the header of this file",
+            Refusal::FieldCount => "as many fields as the header has",
+            Refusal::NotANumber => "one to ten digits, at most 4294967295",
+            Refusal::UnknownKind => "mode, switch or frame",
+            Refusal::FrameFieldFilled => "nothing, since a frame has only its length",
+            Refusal::ModeNumber => "a mode number from 1 to 16",
+            Refusal::ModeRepeated => "a mode number that is not listed before",
+            Refusal::SpeedLimit => "a speed of at most 10000 MHz",
+            Refusal::PowerLimit => "a power of at most 100000 mW",
+            Refusal::FromUnlisted | Refusal::ToUnlisted => "a mode that is listed before",
+            Refusal::SwitchToItself => "another mode than the switch comes from",
+            Refusal::SwitchRepeated => "a switch that is not listed before",
+            Refusal::SwitchLimit => "a switch of at most 20000 microseconds",
+            Refusal::FrameLimit => "a frame of 1 to 20000 microseconds",
+            Refusal::FrameRepeated => "a frame that is not listed before",
+            Refusal::NinthFrame => "at most eight frames",
+            Refusal::NoMode => "at least one mode",
+            Refusal::ShareNumbers => "at least one part and at most all, of at most 1000",
+            Refusal::HoldoffLimit => "a holdoff of at most 1000000 microseconds",
+            Refusal::TaskFigure => "each figure of the task within its limits",
+            Refusal::RankTaken => "a rank that no other task has",
+            Refusal::PlanFull => "at most sixteen tasks",
+            Refusal::NoTickets => "at most 65535 tickets",
+            Refusal::OutsideSpan => "a hyperperiod of at most 1000000 microseconds",
+            Refusal::NoDrive => "tasks that some drive can serve",
+            Refusal::TicketNeverGiven => "a ticket that was given",
+            Refusal::TicketWithdrawn => "a ticket that was not withdrawn",
+            Refusal::WindowLimit => "a window of at most 1000000 microseconds",
+            Refusal::NotACandidate => "a drive that the processor offers",
+            Refusal::LengthsDiffer => "as many places as windows",
+            Refusal::NoRoom => "room for the whole line",
+            Refusal::Memory => "enough memory",
+        }
+    }
 }
 
-// What was expected.
 impl fmt::Display for Refusal {
+    ghost output = { λ r. Some (codes "expected " ++ expected_text r) };
+
     fn fmt<W: fmt::Write>(&self, f: &mut fmt::Formatter<W>) -> fmt::Result {
-        f.write_str(match self {
-            Refusal::FileTooLong => "expected a file of at most 65,536 bytes",
-            Refusal::NotCsv => "expected CSV by RFC 4180 with CR LF line ends",
-            Refusal::HeaderDiffers => "expected the header of this file",
-            Refusal::FieldCount => "expected as many fields as the header has",
-            Refusal::NotANumber => "expected one to ten digits, at most 4294967295",
-            Refusal::UnknownKind => "expected mode, switch or frame",
-            Refusal::FrameFieldFilled => "expected nothing, since a frame has only its length",
-            Refusal::ModeNumber => "expected a mode number from 1 to 16",
-            Refusal::ModeRepeated => "expected a mode number that is not listed before",
-            Refusal::SpeedLimit => "expected a speed of at most 10000 MHz",
-            Refusal::PowerLimit => "expected a power of at most 100000 mW",
-            Refusal::FromUnlisted | Refusal::ToUnlisted => "expected a mode that is listed before",
-            Refusal::SwitchToItself => "expected another mode than the switch comes from",
-            Refusal::SwitchRepeated => "expected a switch that is not listed before",
-            Refusal::SwitchLimit => "expected a switch of at most 20000 microseconds",
-            Refusal::FrameLimit => "expected a frame of 1 to 20000 microseconds",
-            Refusal::FrameRepeated => "expected a frame that is not listed before",
-            Refusal::NinthFrame => "expected at most eight frames",
-            Refusal::NoMode => "expected at least one mode",
-            Refusal::ShareNumbers => "expected at least one part and at most all, of at most 1000",
-            Refusal::HoldoffLimit => "expected a holdoff of at most 1000000 microseconds",
-            Refusal::TaskFigure => "expected each figure of the task within its limits",
-            Refusal::RankTaken => "expected a rank that no other task has",
-            Refusal::PlanFull => "expected at most sixteen tasks",
-            Refusal::NoTickets => "expected at most 65535 tickets",
-            Refusal::OutsideSpan => "expected a hyperperiod of at most 1000000 microseconds",
-            Refusal::NoDrive => "expected tasks that some drive can serve",
-            Refusal::TicketNeverGiven => "expected a ticket that was given",
-            Refusal::TicketWithdrawn => "expected a ticket that was not withdrawn",
-            Refusal::WindowLimit => "expected a window of at most 1000000 microseconds",
-            Refusal::NotACandidate => "expected a drive that the processor offers",
-            Refusal::LengthsDiffer => "expected as many places as windows",
-            Refusal::NoRoom => "expected room for the whole line",
-            Refusal::Memory => "expected enough memory",
-        })
+        f.write_str("expected ")?;
+        f.write_str(self.expected())
     }
 }
 

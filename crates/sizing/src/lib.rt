@@ -1,5 +1,6 @@
 #![tactic(auto)]
 
+pub mod advice;
 pub mod program;
 pub mod size;
 #[cfg(test)]

@@ -1,10 +1,10 @@
 use Rattle.std.proofs.Common.{◌∙◌, rules, tests}
-use Rattle.std.proofs.lemmas.Iterator.{YieldsList-from_slice}
-use Rattle.std.proofs.lemmas.Iterator.Search.{find_from_yields_List}
+use Rattle.std.specs.Slice.Iter.{iter_rest}
+use Rattle.processor.proofs.FindMap.{find_mapped}
 use Rattle.processor.specs.Tables.{has_number}
 use Rattle.processor.proofs.table.Processor.mode.Goals as goal
 
 pub returns : goal.returns
 returns c =
-    c.copied.ensures ∙ find_from_yields_List (has_number c.args.number) _ _ c.find.result c.find.ensures.ran
-    (YieldsList-from_slice c.args.self.now.modes.items cc) (λ x b q k. search (rules, tests))
+    find_mapped (λ y. y.now) (has_number c.args.number) _ (λ x o q k. search (rules, tests)) iter_rest c.iter.result c.find_map.result _
+    c.iter.ensures.runs (c.iter.ensures.rest ∙ c.deref.ensures.value) c.find_map.ensures.runs
